@@ -15,23 +15,20 @@ two_bytes n = to_be_bytes w16 n
 unfoldable pub four_bytes : ℕ → List ℕ
 four_bytes n = to_be_bytes w32 n
 
+-- the other end
+abbrev pub other : Sender → Sender
+other Client = Server
+other Server = Client
+
 -- the client has the address 10.0.0.1 + c, the server 192.0.2.1
 abbrev pub sender_address : Sender → ℕ → ℕ
 sender_address Client c = 0x0a000001 + c
 sender_address Server c = 0xc0000201
 
-abbrev pub receiver_address : Sender → ℕ → ℕ
-receiver_address Client c = sender_address Server c
-receiver_address Server c = sender_address Client c
-
 -- ports
 abbrev pub source_port : Sender → ℕ → ℕ
 source_port Client c = 1024 + c % 60000
 source_port Server c = 80
-
-abbrev pub target_port : Sender → ℕ → ℕ
-target_port Client c = source_port Server c
-target_port Server c = source_port Client c
 
 -- the Ethernet header: to 02:00:00:00:00:02 from 02:00:00:00:00:01, or back, of type IPv4
 abbrev pub ethernet_header : Sender → List ℕ
@@ -41,11 +38,11 @@ ethernet_header Server = 2 ∷ 0 ∷ 0 ∷ 0 ∷ 0 ∷ 1 ∷ 2 ∷ 0 ∷ 0 ∷ 0
 -- the IPv4 header: version 4, 20 bytes, service 0; total length; identification 0, don't fragment, TTL 64, protocol TCP,
 -- checksum 0; source and destination
 abbrev pub ipv4_header : ℕ → Segment → List ℕ
-ipv4_header c s = 0x45 ∷ 0 ∷ two_bytes (40 + s.count) ++ 0 ∷ 0 ∷ 0x40 ∷ 0 ∷ 64 ∷ 6 ∷ 0 ∷ 0 ∷ four_bytes (sender_address s.sender c) ++ four_bytes (receiver_address s.sender c)
+ipv4_header c s = 0x45 ∷ 0 ∷ two_bytes (40 + s.count) ++ 0 ∷ 0 ∷ 0x40 ∷ 0 ∷ 64 ∷ 6 ∷ 0 ∷ 0 ∷ four_bytes (sender_address s.sender c) ++ four_bytes (sender_address (other s.sender) c)
 
 -- the TCP header: ports, numbers, 20 bytes, flags, window ffff, checksum 0, urgent 0
 abbrev pub tcp_header : ℕ → Segment → List ℕ
-tcp_header c s = two_bytes (source_port s.sender c) ++ two_bytes (target_port s.sender c) ++ four_bytes s.seq ++ four_bytes s.ack ++ 0x50 ∷ s.flags ∷ 0xff ∷ 0xff ∷ 0 ∷ 0 ∷ 0 ∷ 0 ∷ []
+tcp_header c s = two_bytes (source_port s.sender c) ++ two_bytes (source_port (other s.sender) c) ++ four_bytes s.seq ++ four_bytes s.ack ++ 0x50 ∷ s.flags ∷ 0xff ∷ 0xff ∷ 0 ∷ 0 ∷ 0 ∷ 0 ∷ []
 
 abbrev pub payload : ℕ → Segment → List ℕ
 payload c s = map (byte_of s.sender c) (range_with_len s.first s.count)

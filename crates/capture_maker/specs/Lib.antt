@@ -3,3 +3,4 @@ pub mod Turns
 pub mod Frames
 pub mod Made
 pub mod Laws
+pub mod Sent

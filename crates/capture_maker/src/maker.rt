@@ -1,9 +1,8 @@
 //! The source of the generated capture.
 
 ghost use Rattle.std.specs.Prelude.{◌≡◌, ◌+◌, ◌*◌, ◌<◌, ◌≤◌, ℕ, [], ◌++◌, length, take, drop, min, Some, IsOk, IfOk};
-ghost use Rattle.std.specs.Io.{ReadsAtMost};
-ghost use Rattle.std.specs.Io.KnownBytes.{ReadConsumes};
 ghost use Rattle.mos_bytes.specs.Causes.{HasCause};
+ghost use Rattle.mos_bytes.specs.Reads.{ReadGives};
 ghost use Rattle.capture_maker.specs.Made.{MakerState, made, packet_records};
 
 use crate::piece::Piece;
@@ -97,8 +96,7 @@ impl Source for Maker {
 
     /// Gives the rest of a record, or as much of it as `buf` has room for. It never fails.
     fn read(&mut self, buf: &mut [u8]) -> Result<usize, Failed>
-        ensures bound { ReadsAtMost result buf.new }
-        ensures bytes { ReadConsumes (Some self.old.left) (Some self.new.left) result buf.new }
+        ensures reads { ReadGives (Some self.old.left) (Some self.new.left) result buf.new }
         ensures ended { IfOk result (λ n. n ≡ 0 → 0 < length buf.new → self.new.left ≡ []) }
         ensures cause { HasCause 0 0 result }
         ensures never { IsOk result }

@@ -2,10 +2,11 @@
 
 ghost use Rattle.std.specs.Prelude.{◌≡◌, ◌+◌, ◌<◌, ◌≤◌, [], ◌++◌, ℕ, length, map};
 ghost use Rattle.std.specs.List.{range_with_len};
-ghost use Rattle.capture_maker.specs.Frames.{ethernet_header, record_head, ipv4_header, payload, packet_record, sender_address, source_port, receiver_address, target_port, tcp_header};
+ghost use Rattle.capture_maker.specs.Frames.{ethernet_header, record_head, ipv4_header, other, payload, packet_record, sender_address, source_port, tcp_header};
+ghost use Rattle.capture_maker.specs.Sent.{IsSent};
 ghost use Rattle.capture_maker.specs.Table.{byte_of};
 
-use crate::piece::Piece;
+use crate::piece::{Piece, put_u16, put_u32};
 use crate::step::{Segment, Sender, segment_in};
 use crate::turns::Turn;
 
@@ -30,6 +31,16 @@ fn sent_byte(sender: Sender, connection: u32, position: u32) -> u8
     }
 }
 
+// The other end.
+fn other(sender: Sender) -> Sender
+    ensures { result ≡ other sender }
+{
+    match sender {
+        Sender::Client => Sender::Server,
+        Sender::Server => Sender::Client,
+    }
+}
+
 fn source_of(sender: Sender, connection: u32) -> u32
     requires { connection < 100000 }
     ensures { result ≡ sender_address sender connection }
@@ -37,16 +48,6 @@ fn source_of(sender: Sender, connection: u32) -> u32
     match sender {
         Sender::Client => FIRST_CLIENT + connection,
         Sender::Server => SERVER,
-    }
-}
-
-fn target_of(sender: Sender, connection: u32) -> u32
-    requires { connection < 100000 }
-    ensures { result ≡ receiver_address sender connection }
-{
-    match sender {
-        Sender::Client => source_of(Sender::Server, connection),
-        Sender::Server => source_of(Sender::Client, connection),
     }
 }
 
@@ -59,15 +60,6 @@ fn port_of(sender: Sender, connection: u32) -> u16
     }
 }
 
-fn target_port_of(sender: Sender, connection: u32) -> u16
-    ensures { result ≡ target_port sender connection }
-{
-    match sender {
-        Sender::Client => port_of(Sender::Server, connection),
-        Sender::Server => port_of(Sender::Client, connection),
-    }
-}
-
 // Puts the head of the record.
 #[tactic(auto, unfolding(crate::specs::Frames::record_head))]
 fn put_head(piece: &mut Piece, index: u32, segment: &Segment)
@@ -77,10 +69,10 @@ fn put_head(piece: &mut Piece, index: u32, segment: &Segment)
     ensures len { length piece.new ≡ length piece.old + 16 }
 {
     let len = 54 + segment.count;
-    piece.put_u32(index / 1000);
-    piece.put_u32(index % 1000 * 1000);
-    piece.put_u32(len);
-    piece.put_u32(len);
+    put_u32(piece, index / 1000);
+    put_u32(piece, index % 1000 * 1000);
+    put_u32(piece, len);
+    put_u32(piece, len);
 }
 
 fn put_ethernet(piece: &mut Piece, sender: Sender)
@@ -95,17 +87,16 @@ fn put_ethernet(piece: &mut Piece, sender: Sender)
 }
 
 fn put_ipv4(piece: &mut Piece, connection: u32, segment: &Segment)
-    requires connection { connection < 100000 }
-    requires count { segment.now.count ≤ 100 }
+    requires sent { IsSent connection segment.now }
     requires room { length piece.old + 20 ≤ 170 }
     ensures bytes { piece.new ≡ piece.old ++ ipv4_header connection segment.now }
     ensures len { length piece.new ≡ length piece.old + 20 }
 {
     piece.put(&[0x45, 0]);
-    piece.put_u16((40 + segment.count) as u16);
+    put_u16(piece, (40 + segment.count) as u16);
     piece.put(&[0, 0, 0x40, 0, 64, 6, 0, 0]);
-    piece.put_u32(source_of(segment.sender, connection));
-    piece.put_u32(target_of(segment.sender, connection));
+    put_u32(piece, source_of(segment.sender, connection));
+    put_u32(piece, source_of(other(segment.sender), connection));
 }
 
 fn put_tcp(piece: &mut Piece, connection: u32, segment: &Segment)
@@ -113,17 +104,15 @@ fn put_tcp(piece: &mut Piece, connection: u32, segment: &Segment)
     ensures bytes { piece.new ≡ piece.old ++ tcp_header connection segment.now }
     ensures len { length piece.new ≡ length piece.old + 20 }
 {
-    piece.put_u16(port_of(segment.sender, connection));
-    piece.put_u16(target_port_of(segment.sender, connection));
-    piece.put_u32(segment.seq);
-    piece.put_u32(segment.ack);
+    put_u16(piece, port_of(segment.sender, connection));
+    put_u16(piece, port_of(other(segment.sender), connection));
+    put_u32(piece, segment.seq);
+    put_u32(piece, segment.ack);
     piece.put(&[0x50, segment.flags, 0xff, 0xff, 0, 0, 0, 0]);
 }
 
 fn put_payload(piece: &mut Piece, connection: u32, segment: &Segment)
-    requires connection { connection < 100000 }
-    requires first { segment.now.first ≤ 100 }
-    requires count { segment.now.count ≤ 100 }
+    requires sent { IsSent connection segment.now }
     requires room { length piece.old + segment.now.count ≤ 170 }
     ensures bytes { piece.new ≡ piece.old ++ payload connection segment.now }
     ensures len { length piece.new ≡ length piece.old + segment.now.count }

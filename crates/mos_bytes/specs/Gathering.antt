@@ -1,5 +1,5 @@
 -- Not of the headline. What a sink that gathers tells.
-use Rattle.std.specs.Prelude.{◌≡◌, ◌↔◌, ℕ, ◌+◌, List, [], Result, IsOk}
+use Rattle.std.specs.Prelude.{◌≡◌, ◌≢◌, ◌↔◌, ℕ, ◌+◌, List, [], Result, IsOk, IsErr, OnOk}
 use Rattle.std.specs.declared.option.Option.{Option}
 use Rattle.std.specs.Io.KnownBytes.{Keeps, append_known}
 use Rattle.mos_bytes.specs.Causes.{HasCause}
@@ -43,17 +43,18 @@ DoesNothing old new result = IsOk result × (new ≡ old)
 abbrev pub gathering_lasting : {S : Type 0} {sink : Ghosts S} → GatheringSink S sink → S × sink.Lasting
 gathering_lasting {sink = sink} g = (g.start.value, sink.lasting g.inner)
 
--- a call that asks the sink below: it fails where that one does, and leaves what lasts
-pub record TellsBelow {S T : Type 0} {sink : Ghosts S} (old new : GatheringSink S sink) (result : Result T Failed) : Type 0 where
+-- What a call told: it fails where the sink below does, and where a call before has failed. That one isn't called then.
+pub record Tells {S T : Type 0} {sink : Ghosts S} (old new : GatheringSink S sink) (result : Result T Failed) : Type 0 where
   pub sound : IsOk result ↔ (failures_of new ≡ 0)
   pub cause : HasCause (gathering_faults old) (gathering_faults new) result
-  pub below : IsCausedBelow old new result
   pub lasts : gathering_lasting new ≡ gathering_lasting old
+  pub below : failures_of old ≡ 0 → IsCausedBelow old new result
+  pub stopped : failures_of old ≢ 0 → IsErr result × (inner_of new ≡ inner_of old)
 
 -- such a call, which was given nothing
 pub record HandsOn {S T : Type 0} {sink : Ghosts S} (old new : GatheringSink S sink) (result : Result T Failed) : Type 0 where
   pub given : Keeps (given_to old) (given_to new)
-  pub told : TellsBelow old new result
+  pub told : Tells old new result
 
 -- a sink over this one, to which nothing was given yet
 pub record IsNew {S : Type 0} {sink : Ghosts S} (g : GatheringSink S sink) (inner : S) : Type 0 where
@@ -67,3 +68,10 @@ pub record IsNew {S : Type 0} {sink : Ghosts S} (g : GatheringSink S sink) (inne
 pub record IsFinished {S : Type 0} {sink : Ghosts S} (g : GatheringSink S sink) : Type 0 where
   pub taken : sink.taken (inner_of g) ≡ given_to g
   pub empty : held_of g ≡ []
+
+-- all that is held is handed on; the sink below isn't called where nothing is held
+pub record Finishes {S T : Type 0} {sink : Ghosts S} (old new : GatheringSink S sink) (result : Result T Failed) : Type 0 where
+  pub given : Keeps (given_to old) (given_to new)
+  pub told : Tells old new result
+  pub finished : OnOk result (IsFinished new)
+  pub idle : failures_of old ≡ 0 → held_of old ≡ [] → DoesNothing old new result

@@ -1,7 +1,15 @@
 -- Not of the headline. What a source, a sink and a shelf in memory hold.
-use Rattle.std.specs.Prelude.{ℕ, List}
+use Rattle.std.specs.Prelude.{◌≡◌, ℕ, List, Result}
 use Rattle.std.specs.declared.option.Option.{Option}
+use Rattle.mos_bytes.specs.Causes.{risen}
 use Rattle.mos_bytes.specs.Fetches.{content_of}
+use Rattle.mos_bytes.specs.Outside.{CountsFault}
+use Rattle.mos_bytes.specs.declared.failed.Failed.{Failed}
+
+-- a call counts itself, and a fault where it fails
+pub record CountsCall {T : Type 0} (before after faults_before faults_after : ℕ) (result : Result T Failed) : Type 0 where
+  pub calls : after ≡ risen before
+  pub faults : CountsFault faults_before faults_after result
 
 -- what no call of such a source changes: the most bytes that a read gives, and the calls that are to fail
 pub record SourceLasting : Type 0 where

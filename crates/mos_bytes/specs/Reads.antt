@@ -1,9 +1,9 @@
 -- Not of the headline. What a source has at hand, and what `fill` does to the bytes that are left in it, where it tells them.
 use Rattle.std.specs.Prelude.{◌≡◌, ℕ, ◌<◌, ◌≤◌, ⊤, List, length, take, drop, Result, MatchResult}
-use Rattle.std.specs.Io.{StartsWith}
+use Rattle.std.specs.Io.{ReadsAtMost, StartsWith}
 use Rattle.std.specs.declared.option.Option.{Option}
 use Rattle.std.specs.declared.option.Option.TheVariants.{None, Some}
-use Rattle.std.specs.Io.KnownBytes.{Consumes, IsAtEnd}
+use Rattle.std.specs.Io.KnownBytes.{Consumes, IsAtEnd, ReadConsumes}
 use Rattle.mos_bytes.specs.declared.failed.Failed.{Failed}
 
 -- the bytes that are left begin with these, where they are told
@@ -21,6 +21,11 @@ abbrev pub PassesOver : Option (List ℕ) → Option (List ℕ) → ℕ → Type
 PassesOver None new count = ⊤
 PassesOver (Some old) None count = ⊥
 PassesOver (Some old) (Some new) count = (count ≤ length old) × (new ≡ drop count old)
+
+-- a read put no more bytes into buf than it has room for, and these were consumed
+pub record ReadGives (old new : Option (List ℕ)) (result : Result ℕ Failed) (buf : List ℕ) : Type 0 where
+  pub bound : ReadsAtMost result buf
+  pub bytes : ReadConsumes old new result buf
 
 -- n bytes were consumed, those at the front of buf, and fewer than buf has room for only where none is left
 pub record Fills (old new : Option (List ℕ)) (n : ℕ) (buf : List ℕ) : Type 0 where

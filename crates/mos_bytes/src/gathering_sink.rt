@@ -40,7 +40,7 @@ pub struct GatheringSink<S: Sink> {
 }
 
 impl<S: Sink> GatheringSink<S> {
-    ghost use Rattle.mos_bytes.specs.Gathering.{DoesNothing, HandsOn, IsCausedBelow, IsFinished, IsNew, TellsBelow, inner_of, start_of, held_of, failures_of, given_to, gathering_faults, gathering_lasting};
+    ghost use Rattle.mos_bytes.specs.Gathering.{DoesNothing, Finishes, HandsOn, IsNew, Tells, inner_of, start_of, held_of, failures_of, given_to, gathering_faults};
 
     /// A sink over this one. All of its memory is taken here; where that is refused, `inner` comes back.
     pub fn new(alloc: Global, inner: S) -> Result<Self, AllocFailed<S>>
@@ -111,7 +111,7 @@ impl<S: Sink> GatheringSink<S> {
         requires sound { failures_of self.old ≡ 0 }
         requires empty { held_of self.old ≡ [] }
         ensures bytes { WriteAdds (given_to self.old) (given_to self.new) result bytes.now }
-        ensures told { TellsBelow self.old self.new result }
+        ensures told { Tells self.old self.new result }
     {
         let passed = self.inner.write_all(bytes);
         self.before = Snapshot::of(&self.inner);
@@ -126,10 +126,7 @@ impl<S: Sink> GatheringSink<S> {
         requires { failures_of self.old ≢ 0 }
         ensures fails { IsErr result }
         ensures given { given_to self.new ≡ given_to self.old }
-        ensures inner { inner_of self.new ≡ inner_of self.old }
-        ensures start { start_of self.new ≡ start_of self.old }
-        ensures stays { failures_of self.new ≢ 0 }
-        ensures cause { HasCause (gathering_faults self.old) (gathering_faults self.new) result }
+        ensures told { Tells self.old self.new result }
     {
         self.failures = self.failures.saturating_add(1);
         Err(Failed)
@@ -137,16 +134,7 @@ impl<S: Sink> GatheringSink<S> {
 
     /// Hands on what is held. At `Ok` the sink below has taken all that was given. After a call that failed it fails too.
     pub fn finish(&mut self) -> Result<(), Failed>
-        ensures finished { OnOk result (IsFinished self.new) }
-        ensures given { Keeps (given_to self.old) (given_to self.new) }
-        ensures sound { IsOk result ↔ (failures_of self.new ≡ 0) }
-        ensures cause { HasCause (gathering_faults self.old) (gathering_faults self.new) result }
-        ensures lasts { gathering_lasting self.new ≡ gathering_lasting self.old }
-
-        // A first fault is one of the sink below. That one isn't called where nothing is held, nor after a fault.
-        ensures below { failures_of self.old ≡ 0 → IsCausedBelow self.old self.new result }
-        ensures idle { failures_of self.old ≡ 0 → held_of self.old ≡ [] → DoesNothing self.old self.new result }
-        ensures stopped { failures_of self.old ≢ 0 → IsErr result × (inner_of self.new ≡ inner_of self.old) }
+        ensures { Finishes self.old self.new result }
     {
         if self.failures > 0 {
             return self.fail_again();
@@ -170,7 +158,7 @@ impl<S: Sink> GatheringSink<S> {
 }
 
 impl<S: Sink> Sink for GatheringSink<S> {
-    ghost use Rattle.mos_bytes.specs.Gathering.{DoesNothing, IsCausedBelow, IsFinished, inner_of, held_of, failures_of, given_to, gathering_faults, gathering_lasting};
+    ghost use Rattle.mos_bytes.specs.Gathering.{Finishes, Tells, inner_of, held_of, failures_of, given_to, gathering_faults, gathering_lasting};
 
     ghost taken = { given_to };
 
@@ -185,16 +173,12 @@ impl<S: Sink> Sink for GatheringSink<S> {
     #[inline(always)]
     fn write_all(&mut self, bytes: &[u8]) -> Result<(), Failed>
         ensures bytes { WriteAdds (given_to self.old) (given_to self.new) result bytes.now }
-        ensures sound { IsOk result ↔ (failures_of self.new ≡ 0) }
-        ensures cause { HasCause (gathering_faults self.old) (gathering_faults self.new) result }
-        ensures lasts { gathering_lasting self.new ≡ gathering_lasting self.old }
+        ensures told { Tells self.old self.new result }
 
-        // A first fault is one of the sink below. That one isn't called for a small piece that has room, nor after a fault.
-        ensures below { failures_of self.old ≡ 0 → IsCausedBelow self.old self.new result }
+        // The sink below isn't called for a small piece that has room.
         ensures gathers { failures_of self.old ≡ 0 → length bytes.now < 65536
             → length (held_of self.old) + length bytes.now ≤ 65536
             → IsOk result × (inner_of self.new ≡ inner_of self.old) × (held_of self.new ≡ held_of self.old ++ bytes.now) }
-        ensures stopped { failures_of self.old ≢ 0 → IsErr result × (inner_of self.new ≡ inner_of self.old) }
     {
         if self.failures > 0 {
             return self.fail_again();
@@ -209,16 +193,7 @@ impl<S: Sink> Sink for GatheringSink<S> {
 
     /// Hands on what is held, as `finish` does.
     fn flush(&mut self) -> Result<(), Failed>
-        ensures bytes { Keeps (given_to self.old) (given_to self.new) }
-        ensures finished { OnOk result (IsFinished self.new) }
-        ensures sound { IsOk result ↔ (failures_of self.new ≡ 0) }
-        ensures cause { HasCause (gathering_faults self.old) (gathering_faults self.new) result }
-        ensures lasts { gathering_lasting self.new ≡ gathering_lasting self.old }
-
-        // A first fault is one of the sink below. That one isn't called where nothing is held, nor after a fault.
-        ensures below { failures_of self.old ≡ 0 → IsCausedBelow self.old self.new result }
-        ensures idle { failures_of self.old ≡ 0 → held_of self.old ≡ [] → DoesNothing self.old self.new result }
-        ensures stopped { failures_of self.old ≢ 0 → IsErr result × (inner_of self.new ≡ inner_of self.old) }
+        ensures { Finishes self.old self.new result }
     {
         self.finish()
     }

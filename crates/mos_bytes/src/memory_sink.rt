@@ -1,9 +1,9 @@
 //! A sink into memory, for tests.
 
-ghost use Rattle.std.specs.Prelude.{◌≡◌, ◌+◌, ◌-◌, ◌/◌, ◌<◌, ◌≤◌, ◌↔◌, ◌⊎◌, ◌++◌, [], ℕ, List, length, take, min, Some, IsOk, IsErr, OnOk, OnErr, Contains};
+ghost use Rattle.std.specs.Prelude.{◌≡◌, ◌+◌, ◌-◌, ◌/◌, ◌<◌, ◌≤◌, ◌↔◌, ◌⊎◌, ◌++◌, [], ℕ, List, length, take, min, Some, IsOk, IsErr, OnErr, Contains};
 ghost use Rattle.std.specs.Io.KnownBytes.{Keeps};
-ghost use Rattle.mos_bytes.specs.Causes.{HasCause, risen};
-ghost use Rattle.mos_bytes.specs.Memory.{SinkLasting, SinkState};
+ghost use Rattle.mos_bytes.specs.Causes.{HasCause};
+ghost use Rattle.mos_bytes.specs.Memory.{CountsCall, SinkLasting, SinkState};
 ghost use Rattle.mos_bytes.specs.Writes.{WriteAdds};
 
 use crate::{Failed, Sink, put_behind};
@@ -72,15 +72,12 @@ impl Sink for MemSink {
     /// rounded down. A piece without room is a fault, and nothing of it is taken.
     fn write_all(&mut self, bytes: &[u8]) -> Result<(), Failed>
         ensures bytes { WriteAdds (Some self.old.taken) (Some self.new.taken) result bytes.now }
-        ensures cause { HasCause self.old.faults self.new.faults result }
+        ensures counted { CountsCall self.old.calls self.new.calls self.old.faults self.new.faults result }
         ensures failed { IsErr result
             ↔ (Contains self.old.fails self.old.calls ⊎ (self.old.room < length bytes.now)) }
         ensures half { OnErr result (length bytes.now ≤ self.old.room
             → self.new.taken ≡ self.old.taken ++ take (length bytes.now / 2) bytes.now) }
         ensures too_long { self.old.room < length bytes.now → self.new.taken ≡ self.old.taken }
-        ensures ok { OnOk result (self.new.faults ≡ self.old.faults) }
-        ensures err { OnErr result (self.new.faults ≡ risen self.old.faults) }
-        ensures calls { self.new.calls ≡ risen self.old.calls }
         ensures room { length self.new.taken + self.new.room ≡ length self.old.taken + self.old.room }
         ensures fails { self.new.fails ≡ self.old.fails }
     {

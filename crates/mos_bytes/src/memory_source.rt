@@ -1,11 +1,8 @@
 //! A source over bytes in memory, for tests.
 
-ghost use Rattle.std.specs.Prelude.{◌≡◌, [], ◌-◌, ◌^◌, ◌<◌, ◌≤◌, ◌↔◌, ℕ, List, length, take, drop, min, Some, IfOk, IsErr, OnOk, OnErr, Contains};
-ghost use Rattle.std.specs.Io.{ReadsAtMost};
-ghost use Rattle.std.specs.Io.KnownBytes.{ReadConsumes};
-ghost use Rattle.mos_bytes.specs.Causes.{HasCause, risen};
-ghost use Rattle.mos_bytes.specs.Memory.{SourceLasting, SourceState};
-ghost use Rattle.mos_bytes.specs.Reads.{BeginsWith, HasAtLeast};
+ghost use Rattle.std.specs.Prelude.{◌≡◌, [], ◌-◌, ◌^◌, ◌<◌, ◌≤◌, ◌↔◌, ℕ, List, length, take, drop, min, Some, IfOk, IsErr, Contains};
+ghost use Rattle.mos_bytes.specs.Memory.{CountsCall, SourceLasting, SourceState};
+ghost use Rattle.mos_bytes.specs.Reads.{BeginsWith, HasAtLeast, ReadGives};
 
 use crate::{Failed, Source, copy_front};
 use std::marker::Model;
@@ -85,15 +82,11 @@ impl Source for MemSource {
 
     /// Gives as many bytes as `buf` has room for and are left, and no more than a piece. A listed call fails and gives none.
     fn read(&mut self, buf: &mut [u8]) -> Result<usize, Failed>
-        ensures bound { ReadsAtMost result buf.new }
-        ensures bytes { ReadConsumes (Some self.old.left) (Some self.new.left) result buf.new }
+        ensures reads { ReadGives (Some self.old.left) (Some self.new.left) result buf.new }
         ensures ended { IfOk result (λ n. n ≡ 0 → 0 < length buf.new → self.new.left ≡ []) }
-        ensures cause { HasCause self.old.faults self.new.faults result }
+        ensures counted { CountsCall self.old.calls self.new.calls self.old.faults self.new.faults result }
         ensures listed { IsErr result ↔ Contains self.old.fails self.old.calls }
         ensures count { IfOk result (λ n. n ≡ min (length buf.old) (min self.old.piece (length self.old.left))) }
-        ensures ok { OnOk result (self.new.faults ≡ self.old.faults) }
-        ensures err { OnErr result (self.new.faults ≡ risen self.old.faults) }
-        ensures calls { self.new.calls ≡ risen self.old.calls }
         ensures piece { self.new.piece ≡ self.old.piece }
         ensures fails { self.new.fails ≡ self.old.fails }
     {

@@ -1,11 +1,10 @@
 //! A source over any reader of std.
 
-ghost use Rattle.std.specs.Prelude.{◌≡◌, ◌≢◌, ◌↔◌, [], ◌+◌, ◌-◌, ◌≤◌, length, take, min, IsTrue, IsOk, OnOk, OnErr};
+ghost use Rattle.std.specs.Prelude.{◌≡◌, ◌≢◌, ◌↔◌, [], ◌+◌, ◌-◌, ◌≤◌, length, take, min, IsTrue, IsOk, OnOk};
 ghost use Rattle.std.specs.Bool.{OnTrue, OnFalse};
-ghost use Rattle.std.specs.Io.{ReadsAtMost};
-ghost use Rattle.std.specs.Io.KnownBytes.{Consumes, IsAtEnd, Keeps, ReadConsumes};
-ghost use Rattle.mos_bytes.specs.Causes.{HasCause, risen};
-ghost use Rattle.mos_bytes.specs.Reads.{BeginsWith, HasAtLeast, PassesOver};
+ghost use Rattle.std.specs.Io.KnownBytes.{Consumes, IsAtEnd, Keeps};
+ghost use Rattle.mos_bytes.specs.Outside.{CountsFault};
+ghost use Rattle.mos_bytes.specs.Reads.{BeginsWith, HasAtLeast, PassesOver, ReadGives};
 
 use crate::{Failed, Source, copy_front};
 use std::io::Read;
@@ -30,11 +29,8 @@ pub struct ReadSource<R> {
 
 // One call of the reader. An error is a fault, and so is a count longer than the buffer.
 fn read_once<R: Read>(inner: &mut R, buf: &mut [u8], faults: &mut u64) -> Result<usize, Failed>
-    ensures bound { ReadsAtMost result buf.new }
-    ensures bytes { ReadConsumes (R.remaining inner.old) (R.remaining inner.new) result buf.new }
-    ensures cause { HasCause faults.old faults.new result }
-    ensures ok { OnOk result (faults.new ≡ faults.old) }
-    ensures err { OnErr result (faults.new ≡ risen faults.old) }
+    ensures reads { ReadGives (R.remaining inner.old) (R.remaining inner.new) result buf.new }
+    ensures counted { CountsFault faults.old faults.new result }
 {
     match inner.read(buf) {
         Ok(count) if count <= buf.len() => Ok(count),
@@ -67,9 +63,7 @@ impl<R: Read> ReadSource<R> {
         requires { self.old.start ≡ self.old.end }
         ensures bytes { Keeps (source_left R.remaining self.old) (source_left R.remaining self.new) }
         ensures end { OnOk result (length (ahead_of self.new) ≡ 0 → IsAtEnd (source_left R.remaining self.new)) }
-        ensures cause { HasCause self.old.faults self.new.faults result }
-        ensures ok { OnOk result (self.new.faults ≡ self.old.faults) }
-        ensures err { OnErr result (self.new.faults ≡ risen self.old.faults) }
+        ensures counted { CountsFault self.old.faults self.new.faults result }
     {
         let count = read_once(&mut self.inner, &mut self.buffer, &mut self.faults)?;
         self.start = 0;
@@ -104,12 +98,8 @@ impl<R: Read> Source for ReadSource<R> {
 
     /// Gives what was read ahead, or asks the reader once. An error counts one fault more, any other answer none.
     fn read(&mut self, buf: &mut [u8]) -> Result<usize, Failed>
-        ensures bound { ReadsAtMost result buf.new }
-        ensures bytes { ReadConsumes (source_left R.remaining self.old) (source_left R.remaining self.new)
-            result buf.new }
-        ensures cause { HasCause (source_faults self.old) (source_faults self.new) result }
-        ensures ok { OnOk result (source_faults self.new ≡ source_faults self.old) }
-        ensures err { OnErr result (source_faults self.new ≡ risen (source_faults self.old)) }
+        ensures reads { ReadGives (source_left R.remaining self.old) (source_left R.remaining self.new) result buf.new }
+        ensures counted { CountsFault (source_faults self.old) (source_faults self.new) result }
 
         // The reader isn't called where something was read ahead.
         ensures quiet { ahead_of self.old ≢ [] → IsOk result × (reader_of self.new ≡ reader_of self.old) }

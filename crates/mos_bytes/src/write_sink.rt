@@ -1,9 +1,10 @@
 //! A sink over any writer of std.
 
-ghost use Rattle.std.specs.Prelude.{◌≡◌, IsOk, OnOk, OnErr};
+ghost use Rattle.std.specs.Prelude.{◌≡◌, IsOk};
 ghost use Rattle.std.specs.Bool.{OnTrue, OnFalse};
 ghost use Rattle.std.specs.Io.KnownBytes.{Appends, Keeps};
-ghost use Rattle.mos_bytes.specs.Causes.{HasCause, risen};
+ghost use Rattle.mos_bytes.specs.Causes.{HasCause};
+ghost use Rattle.mos_bytes.specs.Outside.{CountsFault};
 ghost use Rattle.mos_bytes.specs.Writes.{AppendsFront, WriteAdds};
 
 use crate::{Failed, Sink};
@@ -57,9 +58,7 @@ impl<W: Write> Sink for WriteSink<W> {
     /// and so is a flush that fails. A call that fails counts one fault more, any other none.
     fn write_all(&mut self, bytes: &[u8]) -> Result<(), Failed>
         ensures bytes { WriteAdds (sink_taken W.contents self.old) (sink_taken W.contents self.new) result bytes.now }
-        ensures cause { HasCause (sink_faults self.old) (sink_faults self.new) result }
-        ensures ok { OnOk result (sink_faults self.new ≡ sink_faults self.old) }
-        ensures err { OnErr result (sink_faults self.new ≡ risen (sink_faults self.old)) }
+        ensures counted { CountsFault (sink_faults self.old) (sink_faults self.new) result }
     {
         if write_pieces(&mut self.inner, bytes) && self.inner.flush().is_ok() {
             return Ok(());

@@ -1,11 +1,11 @@
 -- Records that are written are read again.
-use Rattle.std.proofs.Common.{◌≡◌, ℕ, zero, suc, ◌+◌, ◌<◌, ◌≤◌, List, [], ◌∷◌, ◌++◌, length, take, drop, Bool, true, false, nat_lt, All, refl, sym, ap, subst, ◌∙◌, arith, append_assoc, length-append, length-take-le, Ok, Err}
+use Rattle.std.proofs.Common.{◌≡◌, ℕ, zero, suc, ◌+◌, ◌≤◌, List, [], ◌∷◌, ◌++◌, length, take, drop, Bool, true, false, nat_lt, All, refl, sym, ap, subst, ◌∙◌, arith, append_assoc, length-append, length-take-le, Ok, Err}
 use Rattle.std.proofs.lemmas.Bool.Decides.{nat_tests}
 use Rattle.std.proofs.Math.Seq.{take-append_seam, drop-append_seam}
 use Rattle.std.specs.Prelude.{if◌then◌else◌, Result}
 use Rattle.pcap_source.specs.Captured.{Captured}
 use Rattle.pcap_source.specs.Order.{number_in}
-use Rattle.pcap_source.specs.Capture.{Frames, tail, ended, with_frame, captured_by, record_at, record_length, captured_length, frames_from, frames_by, header_of, header_by, order_of, capture_of}
+use Rattle.pcap_source.specs.Capture.{Frames, tail, with_frame, captured_by, record_at, record_length, captured_length, frames_from, frames_by, header_of, header_by, order_of, capture_of}
 use Rattle.pcap_source.specs.Laws.{written, marked}
 use Rattle.pcap_source.specs.Reading.{IsRecord}
 use Rattle.pcap_source.specs.declared.order.Order.{Order}

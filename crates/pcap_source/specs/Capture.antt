@@ -19,15 +19,11 @@ abbrev pub order_of : List ℕ → Option Order
 order_of header = if is_magic (number_in Big 4 header) then Some Big
     else if is_magic (number_in Little 4 header) then Some Little else None
 
--- a header in this order: major version 2, then Ethernet in the low 16 bits of the link type
-abbrev pub header_in : Order → List ℕ → Result Order OpenError
-header_in order header = if not (number_in order 2 (drop 4 header) == 2) then Err BadVersion
-    else if not (number_in order 4 (drop 20 header) % 65536 == 1) then Err BadLink else Ok order
-
--- the same where the order was found
+-- a header in the order that was found: major version 2, then Ethernet in the low 16 bits of the link type
 abbrev pub header_by : Option Order → List ℕ → Result Order OpenError
 header_by None header = Err BadMagic
-header_by (Some order) header = header_in order header
+header_by (Some order) header = if not (number_in order 2 (drop 4 header) == 2) then Err BadVersion
+    else if not (number_in order 4 (drop 20 header) % 65536 == 1) then Err BadLink else Ok order
 
 -- what the global header at the front of these bytes says: the order of bytes, or why it is refused
 abbrev pub header_of : List ℕ → Result Order OpenError

@@ -1,7 +1,7 @@
 -- Not of the headline. A record that is taken where it stands.
 use Rattle.std.specs.Prelude.{◌≡◌, ◌≢◌, ℕ, ◌+◌, ◌≤◌, List, [], length, take, drop, Option, Some, IsTrue}
 use Rattle.std.specs.Io.{StartsWith}
-use Rattle.pcap_source.specs.Captured.{Captured, record_bytes}
+use Rattle.pcap_source.specs.Captured.{record_bytes}
 use Rattle.pcap_source.specs.Capture.{record_at, with_frame}
 use Rattle.pcap_source.specs.Order.{number_in}
 use Rattle.pcap_source.specs.Reading.{CaptureState, IsRecord, Moves, frames_at}

@@ -4,3 +4,4 @@ pub mod InPlace
 pub mod Laws
 pub mod Order
 pub mod Reading
+pub mod Stepping

@@ -4,12 +4,14 @@ ghost use Rattle.std.specs.Prelude.{◌≡◌, ◌+◌, ◌*◌, ◌<◌, ◌≤
 ghost use Rattle.std.specs.Bool.{OnTrue, OnFalse};
 ghost use Rattle.std.specs.Io.KnownBytes.{Consumes};
 ghost use Rattle.mos_bytes.specs.Causes.{HasCauseOf};
+ghost use Rattle.mos_bytes.specs.Outside.{Reads};
 ghost use Rattle.mos_bytes.specs.Reads.{Fills, FillsPart};
 ghost use Rattle.pcap_source.specs.Captured.{record_bytes};
 ghost use Rattle.pcap_source.specs.Capture.{is_whole, captured_by};
 ghost use Rattle.pcap_source.specs.Order.{number_in};
 ghost use Rattle.pcap_source.specs.InPlace.{Tells};
-ghost use Rattle.pcap_source.specs.Reading.{CaptureState, IsRecord, IsTold, NextGives, RefusesAt, reading};
+ghost use Rattle.pcap_source.specs.Reading.{CaptureState, IsRecord, IsTold, NextGives, RefusesAt};
+ghost use Rattle.pcap_source.specs.Stepping.{GivesAt, StepTells};
 
 use crate::header::{HEADER, judge_header};
 use crate::{Frame, NextError, OpenError, Order};
@@ -46,6 +48,14 @@ pub struct WholeRecord {
     pub fraction: u32,
     /// How many bytes the record has: its header of 16, and those that were captured.
     pub len: usize,
+}
+
+// Where a record is read: in this order of bytes, behind so many others, at this offset.
+#[derive(Clone, Copy)]
+pub(crate) struct Place {
+    pub(crate) order: Order,
+    pub(crate) count: u32,
+    pub(crate) offset: u64,
 }
 
 /// A capture whose global header was read and accepted.
@@ -85,8 +95,7 @@ fn read_bytes<S: Source>(
     ensures sized { result ≡ Err NextError.ReadFault → length bytes.new.items ≡ count }
     ensures ended { IfOk result (λ n. n < count → S.ended source.new) }
     ensures told { IsTold (S.left source.old) → IsTold (S.left source.new) }
-    ensures cause { HasCauseOf (S.faults source.old) (S.faults source.new) (IsErrOf result NextError.ReadFault) }
-    ensures lasts { S.lasting source.new ≡ S.lasting source.old }
+    ensures from { Reads S.Source source.old source.new (IsErrOf result NextError.ReadFault) }
     ensures only { IfErr result (λ e. (e ≡ NextError.ReadFault) ⊎ (e ≡ NextError.NoMemory)) }
 {
     bytes.resize(count, 0)?;
@@ -171,8 +180,7 @@ fn take_lent<S: Source>(
         (Consumes (S.left source.old) (S.left source.new) (record_bytes frame.new))) }
     ensures stays { IfOk result (λ took. OnFalse took (S.left source.new ≡ S.left source.old)) }
     ensures refused { OnErr result (source.new ≡ source.old) }
-    ensures faults { S.faults source.new ≡ S.faults source.old }
-    ensures lasts { S.lasting source.new ≡ S.lasting source.old }
+    ensures outside { (S.faults source.new ≡ S.faults source.old) × (S.lasting source.new ≡ S.lasting source.old) }
 {
     if count == RECORD_LIMIT {
         return Ok(false);
@@ -189,26 +197,11 @@ fn take_lent<S: Source>(
     Ok(true)
 }
 
-// Reads the record at this offset into the frame: its head and then its data.
-fn read_parts<S: Source>(
-    order: Order,
-    count: u32,
-    offset: u64,
-    source: &mut S,
-    frame: &mut Frame,
-) -> Result<Step, NextError>
-    requires { count ≤ 1048576 }
-    ensures gives { NextGives (reading order count offset)
-        (reading order (count + 1) (offset + 16 + length frame.new.bytes))
-        (S.left source.old) (S.left source.new) frame.new result }
-    ensures few { result ≡ Ok Step.Frame → count < 1048576 }
-    ensures ended { IfOk result (λ step. step ≢ Step.Frame → S.ended source.new) }
-    ensures refused { RefusesAt (reading order count offset) result }
-    ensures whole { result ≡ Ok Step.Frame → IsRecord order frame.new }
-    ensures consumed { result ≡ Ok Step.Frame
-        → Consumes (S.left source.old) (S.left source.new) (record_bytes frame.new) }
-    ensures cause { HasCauseOf (S.faults source.old) (S.faults source.new) (IsErrOf result NextError.ReadFault) }
-    ensures lasts { S.lasting source.new ≡ S.lasting source.old }
+// Reads the record at this place into the frame: its head and then its data.
+fn read_parts<S: Source>(at: Place, source: &mut S, frame: &mut Frame) -> Result<Step, NextError>
+    requires { at.count ≤ 1048576 }
+    ensures gives { GivesAt at (S.left source.old) (S.left source.new) frame.new result }
+    ensures told { StepTells S.Source at source.old source.new frame.new result }
 {
     let filled = fill(source, &mut frame.head)?;
     if filled == 0 {
@@ -217,46 +210,31 @@ fn read_parts<S: Source>(
     if filled < HEAD {
         return Ok(Step::Tail(filled as u32));
     }
-    if count == RECORD_LIMIT {
-        return Err(NextError::TooMany(offset));
+    if at.count == RECORD_LIMIT {
+        return Err(NextError::TooMany(at.offset));
     }
-    let captured = order.u32_at(&frame.head, 8);
+    let captured = at.order.u32_at(&frame.head, 8);
     if captured > CAPTURED_LIMIT {
-        return Err(NextError::TooLong(offset));
+        return Err(NextError::TooLong(at.offset));
     }
     let filled = read_bytes(source, &mut frame.bytes, captured as usize)?;
     if filled < frame.bytes.len() {
         return Ok(Step::Tail((HEAD + filled) as u32));
     }
-    read_numbers(order, frame);
+    read_numbers(at.order, frame);
     Ok(Step::Frame)
 }
 
-// Reads the record at this offset into the frame: at once where the source lends the whole of it, else by its parts.
-fn read_record<S: Source>(
-    order: Order,
-    count: u32,
-    offset: u64,
-    source: &mut S,
-    frame: &mut Frame,
-) -> Result<Step, NextError>
-    requires { count ≤ 1048576 }
-    ensures gives { NextGives (reading order count offset)
-        (reading order (count + 1) (offset + 16 + length frame.new.bytes))
-        (S.left source.old) (S.left source.new) frame.new result }
-    ensures few { result ≡ Ok Step.Frame → count < 1048576 }
-    ensures ended { IfOk result (λ step. step ≢ Step.Frame → S.ended source.new) }
-    ensures refused { RefusesAt (reading order count offset) result }
-    ensures whole { result ≡ Ok Step.Frame → IsRecord order frame.new }
-    ensures consumed { result ≡ Ok Step.Frame
-        → Consumes (S.left source.old) (S.left source.new) (record_bytes frame.new) }
-    ensures cause { HasCauseOf (S.faults source.old) (S.faults source.new) (IsErrOf result NextError.ReadFault) }
-    ensures lasts { S.lasting source.new ≡ S.lasting source.old }
+// Reads the record at this place into the frame: at once where the source lends the whole of it, else by its parts.
+fn read_record<S: Source>(at: Place, source: &mut S, frame: &mut Frame) -> Result<Step, NextError>
+    requires { at.count ≤ 1048576 }
+    ensures gives { GivesAt at (S.left source.old) (S.left source.new) frame.new result }
+    ensures told { StepTells S.Source at source.old source.new frame.new result }
 {
-    if take_lent(order, count, source, frame)? {
+    if take_lent(at.order, at.count, source, frame)? {
         return Ok(Step::Frame);
     }
-    read_parts(order, count, offset, source, frame)
+    read_parts(at, source, frame)
 }
 
 impl Capture {
@@ -328,7 +306,12 @@ impl Capture {
         ensures lasts { S.lasting source.new ≡ S.lasting source.old }
     {
         self.is_live = false;
-        let step = read_record(self.order, self.count, self.offset, source, frame)?;
+        let at = Place {
+            order: self.order,
+            count: self.count,
+            offset: self.offset,
+        };
+        let step = read_record(at, source, frame)?;
         if step == Step::Frame {
             self.count += 1;
             self.offset += (HEAD + frame.bytes.len()) as u64;

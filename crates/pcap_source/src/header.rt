@@ -1,7 +1,7 @@
 //! The global header of a capture.
 
 ghost use Rattle.std.specs.Prelude.{◌≡◌};
-ghost use Rattle.pcap_source.specs.Capture.{header_by, header_in, is_magic, order_of};
+ghost use Rattle.pcap_source.specs.Capture.{header_by, is_magic, order_of};
 
 use crate::{OpenError, Order};
 

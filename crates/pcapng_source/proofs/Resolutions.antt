@@ -1,11 +1,11 @@
 -- Options, one after another.
-use Rattle.std.proofs.Common.{◌≡◌, ℕ, zero, suc, ◌+◌, ◌-◌, ◌<◌, ◌≤◌, List, [], ◌∷◌, ◌++◌, length, drop, Bool, true, false, ◌==◌, not, cond, get_or, refl, sym, ap, ◌∙◌, arith, length-append, length-drop}
+use Rattle.std.proofs.Common.{◌≡◌, ℕ, zero, suc, ◌+◌, ◌-◌, ◌*◌, ◌/◌, ◌<◌, ◌≤◌, List, [], ◌∷◌, ◌++◌, length, drop, Bool, true, false, ◌==◌, not, cond, get_or, refl, sym, ap, ◌∙◌, arith, length-append, length-drop}
 use Rattle.std.proofs.lemmas.Bool.{leb-true, ne_eqb, not-false, or_from, or_left, or_parts, or_right}
 use Rattle.std.proofs.lemmas.List.{drop_all, get_or-append-add}
 use Rattle.std.proofs.Math.Seq.{drop-append-add}
 use Rattle.std.specs.Prelude.{slice_index}
 use Rattle.pcap_source.specs.Order.{number_in}
-use Rattle.pcapng_source.specs.Fields.{SectionState, has, is_past_options, is_resolution, last_resolved, option_size, padded, resolution_in, resolution_told, with_interface, with_resolution}
+use Rattle.pcapng_source.specs.Fields.{SectionState, has, is_past_options, is_resolution, last_resolved, option_size, resolution_in, resolution_told, with_interface, with_resolution}
 use Rattle.pcap_source.specs.declared.order.Order.{Order}
 use Rattle.pcapng_source.specs.declared.section.Interface.{Interface}
 use Rattle.pcapng_source.proofs.Numbers.{number_in-front, number_at-front, has-there}
@@ -68,7 +68,7 @@ resolved-added section interface resolution = ap (λ l. record { order = section
 -- the head of an option, and the options behind it
 module _ (order : Order) (word area : List ℕ) (whole : length word ≡ 4) where
   sized : option_size order (word ++ area) ≡ option_size order word
-  sized = ap (λ n. 4 + padded n) (number_at-front order 2 2 word area (omega arith))
+  sized = ap (λ n. 4 + (n + 3) / 4 * 4) (number_at-front order 2 2 word area (omega arith))
 
   pub past-code : number_in order 2 word ≡ 0 → is_past_options order (word ++ area) ≡ true
   past-code none =

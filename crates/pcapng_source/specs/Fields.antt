@@ -71,13 +71,9 @@ is_total kind total = total % 4 == 0 && (nat_le (least_total kind) total && nat_
 
 -- ---- interfaces: behind the type and the total length link type u16, two bytes, snap length u32, options
 
--- a length with what pads it to a multiple of 4
-abbrev pub padded : ℕ → ℕ
-padded n = (n + 3) / 4 * 4
-
--- how many bytes the option at the front has: code u16, length u16, and the value, padded to 4
+-- how many bytes the option at the front has: code u16, length u16, and the value, padded to a multiple of 4
 abbrev pub option_size : Order → List ℕ → ℕ
-option_size order options = 4 + padded (number_in order 2 (drop 2 options))
+option_size order options = 4 + (number_in order 2 (drop 2 options) + 3) / 4 * 4
 
 -- no option stands at the front: there are too few bytes, or code 0 ends the options
 abbrev pub is_past_options : Order → List ℕ → Bool

@@ -194,10 +194,46 @@ pub record IsBare (r : Reader) : Type 0 where
   pub made : r.made ≡ []
   pub fits : IsFitting r
 
+-- what it holds was judged
+pub record IsJudged (r : Reader) : Type 0 where
+  pub ready : ready_at r.stage r
+  pub fits : IsFitting r
+
+-- behind the data of a packet, of which nothing waits to be given
+pub record IsAtBorder (r : Reader) : Type 0 where
+  pub behind : IsBehindData r
+  pub bare : IsBare r
+
+-- so many of the next bytes, one at least, may be given as they are
+pub record MayGive (r : Reader) (count : ℕ) : Type 0 where
+  pub bare : IsBare r
+  pub is_open : IsOpen r
+  pub some : 0 < count
+  pub few : count ≤ direct_at r.stage r count
+
+-- so many of them may be skipped
+pub record MaySkip (r : Reader) (count : ℕ) : Type 0 where
+  pub bare : IsBare r
+  pub is_open : IsOpen r
+  pub some : 0 < count
+  pub few : count ≤ skipped_at r.stage r
+
+-- so many of them are to be held
+pub record Wants (r : Reader) (count : ℕ) : Type 0 where
+  pub bare : IsBare r
+  pub settled : settled_at r.stage r
+  pub some : 0 < count
+  pub all : count ≡ wanted_at r.stage r
+
 -- between two calls
 pub record IsSteady (r : Reader) : Type 0 where
   pub fits : IsFitting r
   pub spent : IsSpent r
+
+-- it may read on into a buffer that has room
+pub record CanRead (r : Reader) (buf : List ℕ) : Type 0 where
+  pub room : 0 < length buf
+  pub steady : IsSteady r
 
 -- it holds a whole word in this stage, which isn't judged yet
 pub record HoldsWord (there : Stage) (r : Reader) : Type 0 where
@@ -217,10 +253,21 @@ pub record Stays (old new : Reader) : Type 0 where
   pub fits : IsFitting new
   pub stage : new.stage ≡ old.stage
 
+-- it has read over these bytes, which came next
+pub record ReadsOver (old new : Reader) (bytes : List ℕ) : Type 0 where
+  pub rest : (left : List ℕ) → rest_of new left ≡ rest_of old (bytes ++ left)
+  pub lighter : 0 < length bytes → weight_of new < weight_of old
+  pub stays : Stays old new
+
 -- no read has met a refusal
 pub record IsUnmet (r : Reader) : Type 0 where
   pub fits : IsFitting r
   pub met : met_at r.stage ≡ 0
+
+-- it has gone over these bytes, which came next, and no read has met a refusal
+pub record GoesOver (old new : Reader) (bytes : List ℕ) : Type 0 where
+  pub rest : (left : List ℕ) → rest_of new left ≡ rest_of old (bytes ++ left)
+  pub unmet : IsUnmet new
 
 -- a reader goes on by what it holds alone: it gives the same, and no later
 pub record Goes (old new : Reader) : Type 0 where
@@ -233,6 +280,12 @@ pub record Goes (old new : Reader) : Type 0 where
 pub record Judges (old new : Reader) : Type 0 where
   pub goes : Goes old new
   pub ready : ready_at new.stage new
+
+-- the same, and where no byte waits to be given, the next step takes further bytes
+pub record Settles (old new : Reader) : Type 0 where
+  pub goes : Goes old new
+  pub settled : new.made ≡ [] → settled_at new.stage new
+  pub stays : IsRefused old.stage → new ≡ old
 
 -- a block whose head isn't refused, as far as it is held
 pub record IsUnrefused (r : Reader) : Type 0 where

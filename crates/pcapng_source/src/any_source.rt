@@ -3,10 +3,8 @@
 ghost use Rattle.std.specs.Prelude.{◌≡◌, ◌+◌, ◌<◌, ◌≤◌, ◌↔◌, ℕ, List, length, option_map, IsSome, IfOk, OnOk, OnErr};
 ghost use Rattle.std.specs.Bool.{OnTrue, OnFalse};
 ghost use Rattle.std.proofs.Props.{props};
-ghost use Rattle.std.specs.Io.{ReadsAtMost};
-ghost use Rattle.std.specs.Io.KnownBytes.{ReadConsumes};
 ghost use Rattle.mos_bytes.specs.Causes.{HasCause};
-ghost use Rattle.mos_bytes.specs.Reads.{BeginsWith, HasAtLeast, PassesOver};
+ghost use Rattle.mos_bytes.specs.Reads.{BeginsWith, HasAtLeast, PassesOver, ReadGives};
 ghost use Rattle.pcapng_source.specs.Reading.{IsFitting, IsSpent};
 ghost use Rattle.pcapng_source.specs.Outlooks.{IsLinked, IsLinked-prop, MeetsOrFails};
 
@@ -123,8 +121,7 @@ impl<'a, S: Source> Source for AnySource<'a, S> {
 
     /// Gives bytes that were made or that stand in the file. At a refused block it fails, each time again.
     fn read(&mut self, buf: &mut [u8]) -> Result<usize, Failed>
-        ensures bound { ReadsAtMost result buf.new }
-        ensures bytes { ReadConsumes (any_left self.old) (any_left self.new) result buf.new }
+        ensures reads { ReadGives (any_left self.old) (any_left self.new) result buf.new }
         ensures ended { IfOk result (λ count. count ≡ 0 → 0 < length buf.new → any_ended self.new) }
         ensures cause { HasCause (any_faults self.old) (any_faults self.new) result }
 

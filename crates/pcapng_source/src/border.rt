@@ -21,7 +21,7 @@ const PACKET_HEAD: usize = 28;
 
 impl Reader {
     ghost use Rattle.pcapng_source.specs.Fields.{block_kind};
-    ghost use Rattle.pcapng_source.specs.Reading.{EndsInHead, HoldsHead, IsBare, IsBehindData, IsBorder, IsFitting, IsUnmet, Judges, rest_of, stop_of};
+    ghost use Rattle.pcapng_source.specs.Reading.{EndsInHead, GoesOver, HoldsHead, IsAtBorder, IsBorder, IsUnmet, Judges, rest_of, stop_of};
     ghost use Rattle.pcapng_source.specs.declared.kind.Kind.TheVariants.{EnhancedPacket};
     ghost use Rattle.pcapng_source.specs.declared.reader.Stage.TheVariants.{Head};
 
@@ -46,8 +46,7 @@ impl Reader {
     #[inline]
     pub(crate) fn cross(&mut self, bytes: &[u8])
         requires few { length bytes.now ≤ 35 }
-        requires behind { IsBehindData self.old }
-        requires bare { IsBare self.old }
+        requires border { IsAtBorder self.old }
         ensures rest { EndsInHead self.old bytes.now
             → (left : List ℕ) → rest_of self.new left ≡ rest_of self.old (bytes.now ++ left) }
         ensures unmet { IsUnmet self.new }
@@ -116,11 +115,9 @@ impl Reader {
 
     // The same where the second total length isn't whole.
     fn begin_trailer(&mut self, bytes: &[u8])
-        requires behind { IsBehindData self.old }
+        requires border { IsAtBorder self.old }
         requires few { length bytes.now < self.old.skip + 4 }
-        requires fits { IsFitting self.old }
-        ensures rest { (left : List ℕ) → rest_of self.new left ≡ rest_of self.old (bytes.now ++ left) }
-        ensures unmet { IsUnmet self.new }
+        ensures { GoesOver self.old self.new bytes.now }
     {
         let padding = bytes.len().min(self.skip as usize);
         self.skip -= padding as u64;

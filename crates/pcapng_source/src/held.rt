@@ -1,8 +1,8 @@
 //! Bytes that are held for a while: those that were read and not judged yet, and those that were made and not given.
 
-ghost use Rattle.std.specs.Prelude.{◌≡◌, ◌+◌, ◌-◌, ◌≤◌, List, ℕ, [], ◌++◌, length, take, drop, min, slice_range};
+ghost use Rattle.std.specs.Prelude.{◌≡◌, ◌≤◌, List, ℕ, [], ◌++◌, length, take, min, slice_range};
 
-use mos_bytes::{copy_front, put_behind};
+use mos_bytes::{HeldBytes, copy_front, put_behind};
 use std::marker::Model;
 
 // How many bytes the longest head of a block has.
@@ -15,97 +15,10 @@ const WORD_ROOM: usize = 4;
 const MADE_ROOM: usize = 24;
 
 // The head of a block, as far as it is there.
-#[derive(Drop)]
-pub(crate) struct Head {
-    bytes: [u8; HEAD_ROOM],
-    len: usize,
-}
-
-impl Model for Head {
-    ghost Value = { List ℕ };
-
-    ghost view = { λ h. take h.len h.bytes };
-
-    ghost invariant = { λ h. h.len ≤ 28 };
-}
-
-impl Head {
-    pub(crate) fn new() -> Self
-        ensures { result ≡ [] }
-    {
-        Head {
-            bytes: [0; HEAD_ROOM],
-            len: 0,
-        }
-    }
-
-    pub(crate) fn as_slice(&self) -> &[u8]
-        ensures bytes { result.now ≡ self.now }
-    {
-        &self.bytes[..self.len]
-    }
-
-    #[inline]
-    pub(crate) fn put(&mut self, bytes: &[u8])
-        requires { length self.old + length bytes.now ≤ 28 }
-        ensures { self.new ≡ self.old ++ bytes.now }
-    {
-        self.len = put_behind(&mut self.bytes, self.len, bytes);
-    }
-
-    pub(crate) fn clear(&mut self)
-        ensures { self.new ≡ [] }
-    {
-        self.len = 0;
-    }
-}
+pub(crate) type Head = HeldBytes<HEAD_ROOM>;
 
 // Up to four bytes that are judged once all four are there.
-#[derive(Drop)]
-pub(crate) struct Word {
-    bytes: [u8; WORD_ROOM],
-    len: usize,
-}
-
-impl Model for Word {
-    ghost Value = { List ℕ };
-
-    ghost view = { λ w. take w.len w.bytes };
-
-    ghost invariant = { λ w. w.len ≤ 4 };
-}
-
-impl Word {
-    pub(crate) fn new() -> Self
-        ensures { result ≡ [] }
-    {
-        Word {
-            bytes: [0; WORD_ROOM],
-            len: 0,
-        }
-    }
-
-    pub(crate) fn as_slice(&self) -> &[u8]
-        ensures bytes { result.now ≡ self.now }
-        ensures most { length self.now ≤ 4 }
-    {
-        &self.bytes[..self.len]
-    }
-
-    #[inline]
-    pub(crate) fn put(&mut self, bytes: &[u8])
-        requires { length bytes.now ≤ 4 - length self.old }
-        ensures { self.new ≡ self.old ++ bytes.now }
-    {
-        self.len = put_behind(&mut self.bytes, self.len, bytes);
-    }
-
-    pub(crate) fn clear(&mut self)
-        ensures { self.new ≡ [] }
-    {
-        self.len = 0;
-    }
-}
+pub(crate) type Word = HeldBytes<WORD_ROOM>;
 
 // Bytes that were made.
 #[derive(Drop)]

@@ -77,7 +77,7 @@ impl Reader {
     ghost use Rattle.std.specs.Bool.{OnTrue, OnFalse};
     ghost use Rattle.pcapng_source.specs.Given.{prepended};
     ghost use Rattle.pcapng_source.specs.Blocks.{any};
-    ghost use Rattle.pcapng_source.specs.Reading.{IsBare, IsFitting, IsOpen, IsRefused, IsUnmet, NextIs, Stays, direct_at, fault_at, is_plain_at, met_at, rest_of, settled_at, skipped_at, stop_of, wanted_at, weight_of};
+    ghost use Rattle.pcapng_source.specs.Reading.{IsBare, IsFitting, IsOpen, IsRefused, IsUnmet, MaySkip, NextIs, ReadsOver, Stays, Wants, direct_at, fault_at, is_plain_at, met_at, rest_of, settled_at, stop_of, wanted_at, weight_of};
 
     // In front of a file.
     #[tactic(auto, unfolding(crate::specs::Blocks::any))]
@@ -204,8 +204,7 @@ impl Reader {
 
     // So many of the next bytes were skipped.
     pub(crate) fn skip(&mut self, count: usize)
-        requires few { count ≤ skipped_at self.old.stage self.old }
-        requires fits { IsFitting self.old }
+        requires { MaySkip self.old count }
         ensures rest { (front left : List ℕ) → length front ≡ count
             → rest_of self.new left ≡ rest_of self.old (front ++ left) }
         ensures lighter { 0 < count → weight_of self.new < weight_of self.old }
@@ -221,9 +220,7 @@ impl Reader {
     pub(crate) fn keep(&mut self, bytes: &[u8])
         requires few { length bytes.now ≤ wanted_at self.old.stage self.old }
         requires fits { IsFitting self.old }
-        ensures rest { (left : List ℕ) → rest_of self.new left ≡ rest_of self.old (bytes.now ++ left) }
-        ensures lighter { 0 < length bytes.now → weight_of self.new < weight_of self.old }
-        ensures stays { Stays self.old self.new }
+        ensures { ReadsOver self.old self.new bytes.now }
     {
         match self.stage {
             Stage::Start | Stage::OptionHead | Stage::Resolution | Stage::Trailer => {
@@ -236,9 +233,7 @@ impl Reader {
 
     // No byte comes any more. Whether there are bytes to be given for all that: a file of up to three bytes.
     pub(crate) fn end(&mut self) -> bool
-        requires some { 0 < wanted_at self.old.stage self.old }
-        requires settled { settled_at self.old.stage self.old }
-        requires bare { IsBare self.old }
+        requires { Wants self.old (wanted_at self.old.stage self.old) }
         ensures start { OnTrue result ((rest_of self.new [] ≡ rest_of self.old [])
             × (weight_of self.new < weight_of self.old)) }
         ensures over { OnFalse result ((self.new ≡ self.old) × IsOpen self.new) }

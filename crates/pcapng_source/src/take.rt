@@ -14,7 +14,7 @@ const CLASSIC_HEADER: [u8; 24] = [
 ];
 
 impl Reader {
-    ghost use Rattle.pcapng_source.specs.Reading.{Goes, HoldsHead, HoldsWord, IsBare, IsFitting, IsRefused, Judges, ready_at, settled_at};
+    ghost use Rattle.pcapng_source.specs.Reading.{HoldsHead, HoldsWord, IsBare, IsFitting, IsJudged, IsRefused, Judges, Settles};
     ghost use Rattle.pcapng_source.specs.Refusals.{refusal_of};
     ghost use Rattle.pcapng_source.specs.declared.reader.Stage.TheVariants.{Start, Trailer};
 
@@ -22,9 +22,7 @@ impl Reader {
     #[inline(always)]
     pub(crate) fn take(&mut self)
         requires { IsFitting self.old }
-        ensures goes { Goes self.old self.new }
-        ensures settled { self.new.made ≡ [] → settled_at self.new.stage self.new }
-        ensures stays { IsRefused self.old.stage → self.new ≡ self.old }
+        ensures { Settles self.old self.new }
     {
         if self.made() == 0 && self.direct(1) == 0 {
             self.take_held();
@@ -86,11 +84,8 @@ impl Reader {
 
     // Goes on behind data and skipped bytes: to an option, or else to the second total length.
     fn leave_body(&mut self)
-        requires ready { ready_at self.old.stage self.old }
-        requires fits { IsFitting self.old }
-        ensures goes { Goes self.old self.new }
-        ensures settled { settled_at self.new.stage self.new }
-        ensures stays { IsRefused self.old.stage → self.new ≡ self.old }
+        requires { IsJudged self.old }
+        ensures { Settles self.old self.new }
     {
         if let Stage::Body = self.stage
             && self.owed == 0

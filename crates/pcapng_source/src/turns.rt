@@ -4,7 +4,7 @@ ghost use Rattle.std.specs.Prelude.{◌≡◌, ◌+◌, ◌<◌, ◌≤◌, ℕ,
 ghost use Rattle.std.specs.Bool.{OnTrue};
 ghost use Rattle.mos_bytes.specs.Causes.{HasCause};
 ghost use Rattle.pcapng_source.specs.Outlooks.{Gives, MeetsOrFails, StepEnds, StepFalls, StepFits, StepGives, faults_with, outlook};
-ghost use Rattle.pcapng_source.specs.Reading.{IsBare, IsOpen, IsSteady, direct_at, met_at, settled_at, skipped_at, wanted_at, weight_of};
+ghost use Rattle.pcapng_source.specs.Reading.{CanRead, IsBare, IsSteady, MayGive, MaySkip, Wants, met_at, weight_of};
 ghost use Rattle.pcapng_source.specs.Turns.{Going, Leaves, Passes, Reads};
 
 use crate::border::BORDER;
@@ -23,10 +23,7 @@ pub(crate) fn give<S: Source>(
     reader: &mut Reader,
     buf: &mut [u8],
 ) -> Result<usize, Failed>
-    requires some { 0 < length buf.old }
-    requires few { length buf.old ≤ direct_at reader.old.stage reader.old (length buf.old) }
-    requires bare { IsBare reader.old }
-    requires open { IsOpen reader.old }
+    requires { MayGive reader.old (length buf.old) }
     ensures { Reads S.Source source.old source.new reader.old reader.new result buf.new }
 {
     let count = source.read(buf)?;
@@ -40,10 +37,7 @@ fn skip<S: Source>(
     reader: &mut Reader,
     most: usize,
 ) -> Result<Option<usize>, Failed>
-    requires some { 0 < most }
-    requires few { most ≤ skipped_at reader.old.stage reader.old }
-    requires bare { IsBare reader.old }
-    requires open { IsOpen reader.old }
+    requires { MaySkip reader.old most }
     ensures { Passes S.Source source.old source.new reader.old reader.new result }
 {
     let mut bytes = [0; SKIPPED];
@@ -61,10 +55,7 @@ fn hold<S: Source>(
     reader: &mut Reader,
     most: usize,
 ) -> Result<Option<usize>, Failed>
-    requires some { 0 < most }
-    requires wanted { most ≡ wanted_at reader.old.stage reader.old }
-    requires bare { IsBare reader.old }
-    requires settled { settled_at reader.old.stage reader.old }
+    requires { Wants reader.old most }
     ensures { Passes S.Source source.old source.new reader.old reader.new result }
 {
     let mut bytes = [0; HELD];
@@ -84,8 +75,7 @@ fn step<S: Source>(
     reader: &mut Reader,
     buf: &mut [u8],
 ) -> Result<Option<usize>, Failed>
-    requires room { 0 < length buf.old }
-    requires steady { IsSteady reader.old }
+    requires { CanRead reader.old buf.old }
     ensures gives { StepGives (outlook reader.old (S.left source.old))
         (outlook reader.new (S.left source.new)) result buf.new }
     ensures room { StepFits result buf.new }
@@ -120,8 +110,7 @@ pub(crate) fn read_on<S: Source>(
     reader: &mut Reader,
     buf: &mut [u8],
 ) -> Result<usize, Failed>
-    requires room { 0 < length buf.old }
-    requires steady { IsSteady reader.old }
+    requires { CanRead reader.old buf.old }
     ensures { Reads S.Source source.old source.new reader.old reader.new result buf.new }
 {
     loop {

@@ -117,9 +117,11 @@ pub takes_all : (old new : Window) (limit end rbuf start : ℕ) (segment : List 
 takes_all old new limit end rbuf start segment k h sized bounded =
     let made : ℕ → Placed = λ x. record { new = x; old = 0; differ = 0; over = length segment - x } in
     record {
-      laid = h.new_laid;
-      sized = sized;
-      bounded = bounded;
-      steps = λ policy fin. steps_new old new policy fin rbuf limit end start segment k h;
+      places = λ policy old_sized. record {
+        laid = h.new_laid;
+        sized = sized old_sized;
+        bounded = bounded;
+        steps = λ fin. steps_new old new policy fin rbuf limit end start segment k h;
+      };
       counts = λ fin. ap made (sym h.within) ∙ counts_new old new fin rbuf limit end start segment k h;
     }

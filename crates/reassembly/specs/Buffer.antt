@@ -4,10 +4,10 @@ use Rattle.std.specs.Global.{Global}
 use Rattle.std.specs.declared.vec.Vec.{Vec}
 use Rattle.std.proofs.Common.{ltb-true, leb-true, inl}
 use Rattle.std_collections.specs.Layout.BTreeMap.{btree_map}
-use Rattle.reassembly.specs.Runs.{KeepsBounds}
+use Rattle.reassembly.specs.Placing.{Places}
 use Rattle.reassembly.specs.Segment.{count_below}
-use Rattle.reassembly.specs.Steps.{StepsTo, counts_viewed}
-use Rattle.reassembly.specs.Window.{view_of, IsLaid, IsSized, IsBounded}
+use Rattle.reassembly.specs.Steps.{counts_viewed}
+use Rattle.reassembly.specs.Window.{view_of, IsSized}
 use Rattle.reassembly.specs.declared.answers.Placed.{Placed}
 use Rattle.reassembly.specs.declared.answers.Policy.{Policy}
 use Rattle.reassembly.specs.declared.pages.Pages.{Pages}
@@ -65,8 +65,5 @@ pub record FillsHole (h : Holed) (limit q n : ℕ) : Type 0 where
 
 -- what a segment from q on does to a window where all its bytes below the limit are new
 pub record TakesAll (limit rbuf q : ℕ) (segment : List ℕ) (old new : Window) : Type 0 where
-  pub laid : IsLaid new
-  pub sized : IsSized old rbuf → IsSized new rbuf
-  pub bounded : KeepsBounds (λ m. limit ≤ m) IsBounded old new
-  pub steps : (policy : Policy) (fin : Option ℕ) → StepsTo limit q segment policy (view_of old fin rbuf) (view_of new fin rbuf)
+  pub places : (policy : Policy) → IsSized old rbuf → Places limit rbuf q segment policy old new
   pub counts : (fin : Option ℕ) → new_below limit q (length segment) ≡ counts_viewed (view_of old fin rbuf) limit q segment

@@ -12,4 +12,5 @@ pub mod Waiting
 pub mod Window
 pub mod Buffer
 pub mod Steps
+pub mod Placing
 pub mod Plain

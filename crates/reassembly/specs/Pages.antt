@@ -62,6 +62,12 @@ pub record AreInPage (s : Pages) (low n : ℕ) : Type 0 where
   pub some : 1 ≤ n
   pub within : (low - s.base) % 2048 + n ≤ 2048
 
+-- the positions from low to below high, one at least, lie in the pages or behind them
+pub record CanReach (s : Pages) (low high : ℕ) : Type 0 where
+  pub keyed : IsKeyed s
+  pub from : s.base ≤ low
+  pub some : low < high
+
 -- empty pages were added
 pub record IsExtended (old new : Pages) : Type 0 where
   pub keyed : IsKeyed new

@@ -23,7 +23,7 @@ abbrev pub Gains : (ℕ → Bool) → (ℕ → Bool) → ℕ → ℕ → Type 0
 Gains old new low high = (p : ℕ) → new p ≡ (old p || (nat_le low p && nat_lt p high))
 
 -- each number of this kind that bounded the old bounds the new
-abbrev pub KeepsBounds : {S : Type 0} → (ℕ → Type 0) → (S → ℕ → Type 0) → S → S → Type 0
+abbrev pub KeepsBounds : {S : Type 0} (Kind : ℕ → Type 0) (Bounds : S → ℕ → Type 0) (old new : S) → Type 0
 KeepsBounds Kind Bounds old new = (m : ℕ) → Kind m → Bounds old m → Bounds new m
 
 -- no run is empty, and each begins above the end of those before it

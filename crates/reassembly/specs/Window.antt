@@ -65,6 +65,12 @@ pub record CanCopy (w : Window) (p n : ℕ) : Type 0 where
   pub accepted : (q : ℕ) → p ≤ q → q < p + n → accepts w q ≡ true
   pub reach : p + n < 2 ^ 64
 
+-- a part of a segment can be laid from low on
+pub record HasRoomFor (w : Window) (low : ℕ) (bytes : List ℕ) : Type 0 where
+  pub laid : IsLaid w
+  pub short : length bytes ≤ 65535
+  pub reach : low + length bytes < 2 ^ 63
+
 -- a segment from q on can be placed
 pub record IsReadyFor (w : Window) (q : ℕ) (segment : List ℕ) (rbuf : ℕ) : Type 0 where
   pub laid : IsLaid w

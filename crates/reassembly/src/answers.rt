@@ -1,5 +1,7 @@
 //! What a segment is placed by, and what placing it and noting a FIN answer.
 
+ghost use Rattle.std.specs.Prelude.{◌≡◌, ◌+◌, ◌<◌, ◌^◌};
+
 /// Which byte stays where a segment brings a byte for a position that has one and isn't read yet,
 /// that is at or above `next`. RFC 9293 leaves it open, and receivers differ.
 #[derive(Clone, Copy, Debug, PartialEq, Eq)]
@@ -21,6 +23,22 @@ pub struct Placed {
     pub differ: u32,
     /// Bytes beyond the receive window, or at or past a noted FIN.
     pub over: u32,
+}
+
+impl Placed {
+    /// The answer for a segment whose first bytes, so many, are old, where this is the one for the others.
+    #[inline(always)]
+    pub(crate) fn behind_old(self, count: u32) -> Self
+        requires { count + self.old < 2 ^ 32 }
+        ensures { result ≡ record self { old = count + self.old } }
+    {
+        Placed {
+            new: self.new,
+            old: count + self.old,
+            differ: self.differ,
+            over: self.over,
+        }
+    }
 }
 
 /// What became of a FIN (RFC 9293, section 3.10.7.4, eighth step).

@@ -1,10 +1,9 @@
 //! The buffer of a stream, in the smallest one of three forms that is enough.
 
 ghost use Rattle.std.specs.Prelude.{◌≡◌, ℕ, ◌+◌, ◌-◌, ◌<◌, ◌≤◌, ◌^◌, length, min, vec_capacity, true, Option, OnOk, OnErr, IfOk, IsTrue, IsFalse, ◌↔◌};
-ghost use Rattle.reassembly.specs.Runs.{KeepsBounds};
 ghost use Rattle.reassembly.specs.Laying.{HasBytes};
-ghost use Rattle.reassembly.specs.Steps.{StepsTo, counts_viewed};
-ghost use Rattle.reassembly.specs.Window.{view_of, byte_at, accepts, IsLaid, IsKept, CanCopy, IsReadyFor, IsSized, IsBounded, IsSameWindow};
+ghost use Rattle.reassembly.specs.Placing.{Places, Judges};
+ghost use Rattle.reassembly.specs.Window.{byte_at, accepts, IsLaid, IsKept, CanCopy, IsReadyFor, IsBounded, IsSameWindow};
 ghost use Rattle.reassembly.specs.Buffer.{in_order, holed, differing_from, TakesAll};
 
 use crate::holed::Holed;
@@ -102,15 +101,10 @@ fn append(
     requires window { limit ≤ length bytes.old.items + rbuf }
     requires from { start ≤ length bytes.old.items }
     requires page { start + min (limit - start) (length segment.now) ≤ 2048 }
-    ensures err { OnErr result (bytes.new.items ≡ bytes.old.items) }
-    ensures laid { OnOk result (IsLaid (in_order bytes.new)) }
-    ensures sized { OnOk result (IsSized (in_order bytes.new) rbuf) }
-    ensures bounded { OnOk result (KeepsBounds (λ m. limit ≤ m) IsBounded (in_order bytes.old) (in_order bytes.new)) }
-    ensures steps { OnOk result ((policy : _) (fin : Option ℕ)
-        → StepsTo limit start segment.now policy (view_of (in_order bytes.old) fin rbuf) (view_of (in_order bytes.new) fin rbuf)) }
-    ensures counts { IfOk result (λ placed. (fin : Option ℕ)
-        → placed ≡ counts_viewed (view_of (in_order bytes.old) fin rbuf) limit start segment.now) }
-    ensures bounds { IfOk result (λ placed. placed.old ≤ length segment.now) }
+    ensures err { OnErr result (IsSameWindow (in_order bytes.old) (in_order bytes.new)) }
+    ensures placed { OnOk result ((policy : _)
+        → Places limit rbuf start segment.now policy (in_order bytes.old) (in_order bytes.new)) }
+    ensures judged { IfOk result (Judges limit rbuf start segment.now (in_order bytes.old)) }
 {
     let below = count_under(bytes.len() as u64, start, segment.len());
     let within = count_under(limit, start, segment.len());
@@ -210,14 +204,8 @@ impl Buffer {
         requires order { (window_of self.old).next ≤ limit }
         requires window { limit ≤ (window_of self.old).next + rbuf }
         ensures err { OnErr result (IsSameWindow (window_of self.old) (window_of self.new)) }
-        ensures laid { OnOk result (IsLaid (window_of self.new)) }
-        ensures sized { OnOk result (IsSized (window_of self.new) rbuf) }
-        ensures bounded { OnOk result (KeepsBounds (λ m. limit ≤ m) IsBounded (window_of self.old) (window_of self.new)) }
-        ensures steps { OnOk result ((fin : Option ℕ)
-            → StepsTo limit start segment.now policy (view_of (window_of self.old) fin rbuf) (view_of (window_of self.new) fin rbuf)) }
-        ensures counts { IfOk result (λ placed. (fin : Option ℕ)
-            → placed ≡ counts_viewed (view_of (window_of self.old) fin rbuf) limit start segment.now) }
-        ensures bounds { IfOk result (λ placed. placed.old ≤ length segment.now) }
+        ensures placed { OnOk result (Places limit rbuf start segment.now policy (window_of self.old) (window_of self.new)) }
+        ensures judged { IfOk result (Judges limit rbuf start segment.now (window_of self.old)) }
     {
         let len = segment.len();
         if len == 0 {

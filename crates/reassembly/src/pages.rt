@@ -64,7 +64,7 @@ fn add_behind(page: &mut Vec<u8>, bytes: &[u8]) -> Result<(), AllocError>
 }
 
 impl Pages {
-    ghost use Rattle.reassembly.specs.Pages.{page_at, byte_of, IsHeld, IsReady, IsKeyed, HasNoPages, HasPage, ReachTo, HasPlaces, AreInPage, IsExtended, IsGrown, IsChangedAt, IsSamePlace, CanLay, IsLaidOver, AreAppended, differing_in};
+    ghost use Rattle.reassembly.specs.Pages.{page_at, byte_of, IsHeld, IsReady, IsKeyed, HasNoPages, HasPage, ReachTo, CanReach, HasPlaces, AreInPage, IsExtended, IsGrown, IsChangedAt, IsSamePlace, CanLay, IsLaidOver, AreAppended, differing_in};
 
     /// No pages. It takes no memory.
     pub fn new(alloc: Global) -> Self
@@ -143,9 +143,7 @@ impl Pages {
 
     /// Takes all the memory that the positions from `low` to below `high` need. No byte changes, whether it is refused or not.
     pub fn reserve(&mut self, low: u64, high: u64) -> Result<(), AllocError>
-        requires keyed { IsKeyed self.old }
-        requires from { self.old.base ≤ low }
-        requires some { low < high }
+        requires { CanReach self.old low high }
         ensures grown { IsGrown self.old self.new }
         ensures ready { OnOk result (IsReady self.new low high) }
     {
@@ -244,9 +242,7 @@ impl Pages {
     /// Takes the memory for bytes from `low` on, where none is accepted, and writes them. Where memory is refused, no byte
     /// has changed.
     pub fn append(&mut self, low: u64, bytes: &[u8]) -> Result<(), AllocError>
-        requires keyed { IsKeyed self.old }
-        requires from { self.old.base ≤ low }
-        requires some { 1 ≤ length bytes.now }
+        requires room { CanReach self.old low (low + length bytes.now) }
         requires short { length bytes.now ≤ 65535 }
         requires reach { low + length bytes.now < 2 ^ 63 }
         ensures err { OnErr result (IsGrown self.old self.new) }

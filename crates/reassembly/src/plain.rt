@@ -201,12 +201,7 @@ impl PlainReceiver {
         let end = self.cells.len().max(first + bytes.len());
         self.cells.resize(end, None)?;
         let placed = write_all(&mut self.cells, first, bytes, before, policy);
-        Ok(Placed {
-            new: placed.new,
-            old: below as u32 + placed.old,
-            differ: placed.differ,
-            over: placed.over,
-        })
+        Ok(placed.behind_old(below as u32))
     }
 
     /// Notes a FIN at `position`, where `edge` is the greatest position that is allowed.

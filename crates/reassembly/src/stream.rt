@@ -124,12 +124,7 @@ impl Stream {
             .buffer
             .place(start.position, &bytes[below..], policy, limit, self.rbuf)?;
         self.next = self.buffer.next();
-        Ok(Placed {
-            new: placed.new,
-            old: below as u32 + placed.old,
-            differ: placed.differ,
-            over: placed.over,
-        })
+        Ok(placed.behind_old(below as u32))
     }
 
     /// Notes a FIN at `position`, the end of its segment, where `edge` is the greatest position that is allowed.

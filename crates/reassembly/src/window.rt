@@ -28,9 +28,9 @@ pub fn count_under(position: u64, start: u64, len: usize) -> usize
 }
 
 impl Window {
-    ghost use Rattle.reassembly.specs.Steps.{StepsTo, counts_viewed};
+    ghost use Rattle.reassembly.specs.Placing.{Places, Judges};
     ghost use Rattle.reassembly.specs.Kept.{IsRunEnd, IsFirstKept};
-    ghost use Rattle.reassembly.specs.Window.{view_of, kept_at, byte_at, accepts, IsLaid, IsKept, CanCopy, IsReadyFor, IsSized, IsBounded, IsSameWindow, taken_tally, AreTaken, AreAgain, HaveAccepted, differing_below};
+    ghost use Rattle.reassembly.specs.Window.{kept_at, byte_at, accepts, IsLaid, IsKept, CanCopy, HasRoomFor, IsReadyFor, IsBounded, IsSameWindow, taken_tally, AreTaken, AreAgain, HaveAccepted, differing_below};
 
     /// A window with nothing in it. It takes no memory.
     pub fn new(alloc: Global) -> Self
@@ -115,11 +115,8 @@ impl Window {
 
     // How many bytes of a segment from `start` on, which lie below `next`, differ from the kept ones.
     fn compare(&self, start: u64, bytes: &[u8], rbuf: u32) -> u32
-        requires laid { IsLaid self.now }
-        requires low { self.now.bytes.base ≤ self.now.next - rbuf }
+        requires ready { IsReadyFor self.now start bytes.now rbuf }
         requires below { (length bytes.now ≡ 0) ⊎ (start + length bytes.now ≤ self.now.next) }
-        requires short { length bytes.now ≤ 65535 }
-        requires reach { self.now.next < 2 ^ 63 }
         ensures value { result ≡ differing_below self.now rbuf start bytes.now }
         ensures bound { result ≤ length bytes.now }
     {
@@ -148,11 +145,9 @@ impl Window {
 
     // Takes bytes from `low` on, which lie at or above `next`. Memory comes first, and nothing fails after it.
     fn take(&mut self, low: u64, bytes: &[u8], policy: Policy) -> Result<Judged, AllocError>
-        requires laid { IsLaid self.old }
+        requires room { HasRoomFor self.old low bytes.now }
         requires base { self.old.bytes.base ≤ self.old.next }
         requires from { (length bytes.now ≡ 0) ⊎ (self.old.next ≤ low) }
-        requires short { length bytes.now ≤ 65535 }
-        requires reach { low + length bytes.now < 2 ^ 63 }
         ensures err { OnErr result (IsSameWindow self.old self.new) }
         ensures base { self.new.bytes.base ≡ self.old.bytes.base }
         ensures held { (p : ℕ) → IsHeld self.old.bytes p → IsHeld self.new.bytes p }
@@ -189,13 +184,11 @@ impl Window {
     // Lays bytes from `low` on, past the limit, whose memory is there. They come again where `met` has their positions,
     // which are accepted: these are compared, and replaced where the last byte stays. None of the others is accepted.
     fn repeat(&mut self, met: &[Run], low: u64, bytes: &[u8], policy: Policy) -> Judged
-        requires laid { IsLaid self.old }
+        requires room { HasRoomFor self.old low bytes.now }
         requires ordered { AreOrdered met.now }
         requires base { (length bytes.now ≡ 0) ⊎ (self.old.bytes.base ≤ low) }
         requires ready { IsReady self.old.bytes low (low + length bytes.now) }
         requires met { HaveAccepted self.old met.now low (low + length bytes.now) }
-        requires short { length bytes.now ≤ 65535 }
-        requires reach { low + length bytes.now < 2 ^ 63 }
         ensures place { (self.new.next ≡ self.old.next) × (self.new.runs ≡ self.old.runs) }
         ensures base { self.new.bytes.base ≡ self.old.bytes.base }
         ensures laid { IsLaid self.new }
@@ -229,14 +222,8 @@ impl Window {
         requires order { self.old.next ≤ limit }
         requires window { limit ≤ self.old.next + rbuf }
         ensures err { OnErr result (IsSameWindow self.old self.new) }
-        ensures laid { OnOk result (IsLaid self.new) }
-        ensures sized { OnOk result (IsSized self.new rbuf) }
-        ensures bounded { OnOk result (KeepsBounds (λ m. limit ≤ m) IsBounded self.old self.new) }
-        ensures steps { OnOk result ((fin : Option ℕ)
-            → StepsTo limit start segment.now policy (view_of self.old fin rbuf) (view_of self.new fin rbuf)) }
-        ensures counts { IfOk result (λ placed. (fin : Option ℕ)
-            → placed ≡ counts_viewed (view_of self.old fin rbuf) limit start segment.now) }
-        ensures bounds { IfOk result (λ placed. placed.old ≤ length segment.now) }
+        ensures placed { OnOk result (Places limit rbuf start segment.now policy self.old self.new) }
+        ensures judged { IfOk result (Judges limit rbuf start segment.now self.old) }
     {
         let below = count_under(self.next, start, segment.len());
         let within = count_under(limit, start, segment.len());

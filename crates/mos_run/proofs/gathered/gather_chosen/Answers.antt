@@ -46,7 +46,7 @@ returns g c =
     subst (λ ended. FinishesUnder t ended.versions (g.O.Sink.taken out) (g.O.Sink.taken got)) (sym same)
     (done_below t c.run_chosen-ended.result.versions (g.O.Sink.taken out) (given_to a) (given_to b) (given_to handed) (g.O.Sink.taken got) new.given
     (c.run_chosen-ended.ensures.ran.done (sym (ap (λ ended. ended.status) same) ∙ zero) t is) finish.given (ap g.O.Sink.taken inner.inner ∙ finished.taken)) in
-    let start : start_of handed ≡ out = ap (λ p. p.0) finish.lasts ∙ ap (λ p. p.0) ran.out_lasts ∙ new.start in
+    let start : start_of handed ≡ out = ap (λ p. p.0) finish.told.lasts ∙ ap (λ p. p.0) ran.out_lasts ∙ new.start in
     let below : g.O.Sink.faults (inner_of a) ≡ g.O.Sink.faults out = ap g.O.Sink.faults new.over in
     let sound = new.sound in
     let first : gathering_faults a ≡ g.O.Sink.faults out = omega (arith, below, sound) in
@@ -54,9 +54,9 @@ returns g c =
     c.run_chosen-ended.new.shelf out got _ a b c.args.err.now c.run_chosen-ended.new.err c.run_chosen-ended.result (record {
       still = λ same. inner.inner ∙ ap inner_of (finish.idle (ap failures_of same ∙ new.sound) (ap held_of same ∙ new.empty)).1 ∙ ap inner_of same ∙ new.over;
       later = subst (λ x. g.O.Sink.faults x ≤ g.O.Sink.faults got) start inner.counts;
-      rose = rose_below g.O.Sink.faults out (start_of handed) (gathering_faults a) (gathering_faults b) (gathering_faults handed) (g.O.Sink.faults got) start first finish.cause.later inner.cause;
+      rose = rose_below g.O.Sink.faults out (start_of handed) (gathering_faults a) (gathering_faults b) (gathering_faults handed) (g.O.Sink.faults got) start first finish.told.cause.later inner.cause;
       front = λ text part. front_below g.O.Sink.taken out (start_of handed) (given_to a) (given_to b) (given_to handed) (g.O.Sink.taken got) text start new.given part finish.given inner.between;
-      lasts = ap g.O.Sink.lasting inner.inner ∙ ap (λ p. p.1) finish.lasts ∙ ap (λ p. p.1) ran.out_lasts ∙ ap g.O.Sink.lasting new.over;
+      lasts = ap g.O.Sink.lasting inner.inner ∙ ap (λ p. p.1) finish.told.lasts ∙ ap (λ p. p.1) ran.out_lasts ∙ ap g.O.Sink.lasting new.over;
     }) ran in
     record { ran = record {
       done = done;
@@ -70,6 +70,6 @@ returns g c =
           out got c.args.err.now c.run_chosen-ended.new.err c.handed_on-ended.new.err
           c.run_chosen-ended.result c.handed_on-ended.result _ _ run zero (c.run_chosen-ended.ensures.ran.done zero)
           (rose_below g.O.Sink.faults out (start_of handed) (gathering_faults a) (gathering_faults handed) (gathering_faults handed) (g.O.Sink.faults got) start first (le_refl _) inner.cause
-          (rose_since (gathering_faults a) (gathering_faults b) (gathering_faults handed) ran.write_fault.later (finish.cause.failed failed)))
+          (rose_since (gathering_faults a) (gathering_faults b) (gathering_faults handed) ran.write_fault.later (finish.told.cause.failed failed)))
           (after.status failed zero) (after.told failed zero).0 (after.told failed zero).1 after.lasts);
     } }

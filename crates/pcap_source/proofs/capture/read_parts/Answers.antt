@@ -13,9 +13,9 @@ pub returns-then-filled-lt-HEAD-clause-gives : goal.returns-then-filled-lt-HEAD-
 returns-then-filled-lt-HEAD-clause-gives g c =
     gives-Tail _ _ _ _ _ _ _ _ _ c.in_ok-filled.ensures.bytes (search rules) (omega arith) c.if-filled-lt-HEAD.true
 
-pub returns-then-count-eq-RECORD_LIMIT-clause-gives :
-    goal.returns-then-count-eq-RECORD_LIMIT-clause-gives
-returns-then-count-eq-RECORD_LIMIT-clause-gives g c =
+pub returns-then-at-eq-RECORD_LIMIT-clause-gives :
+    goal.returns-then-at-eq-RECORD_LIMIT-clause-gives
+returns-then-at-eq-RECORD_LIMIT-clause-gives g c =
     gives-TooMany _ _ _ _ _ _ _ _ _ c.in_ok-filled.ensures.bytes (search rules) (omega arith) (omega arith)
 
 pub returns-then-captured-gt-CAPTURED_LIMIT-clause-gives :
@@ -25,14 +25,14 @@ returns-then-captured-gt-CAPTURED_LIMIT-clause-gives g c =
 
 pub returns-then-filled-len-clause-gives : goal.returns-then-filled-len-clause-gives
 returns-then-filled-len-clause-gives g c =
-    let sized : length c.read_bytes.new.bytes.items ≡ number_in c.args.order 4 (drop 8 c.fill.new.buf) = c.in_ok-filled-2.ensures.length ∙ c.u32_at-captured.ensures in
+    let sized : length c.read_bytes.new.bytes.items ≡ number_in c.args.at.order 4 (drop 8 c.fill.new.buf) = c.in_ok-filled-2.ensures.length ∙ c.u32_at-captured.ensures in
     let short : c.in_ok-filled-2.filled < length c.read_bytes.new.bytes.items = omega (arith, c.len.ensures) in
     gives-cut _ _ _ _ _ _ _ _ _ _ _ _ c.in_ok-filled.ensures.bytes (search rules) (omega arith) (omega arith) sized (search rules)
     c.in_ok-filled-2.ensures.ok short
 
 pub returns-clause-gives : goal.returns-clause-gives
 returns-clause-gives g c =
-    let sized : length c.read_bytes.new.bytes.items ≡ number_in c.args.order 4 (drop 8 c.fill.new.buf) = c.in_ok-filled-2.ensures.length ∙ c.u32_at-captured.ensures in
+    let sized : length c.read_bytes.new.bytes.items ≡ number_in c.args.at.order 4 (drop 8 c.fill.new.buf) = c.in_ok-filled-2.ensures.length ∙ c.u32_at-captured.ensures in
     let all : length c.read_bytes.new.bytes.items ≤ c.in_ok-filled-2.filled = omega (arith, c.len.ensures) in
     rw (c.read_numbers.ensures)
     (gives-Frame _ _ _ _ _ _ _ _ _ _ c.in_ok-filled.ensures.bytes (search rules) (omega arith) (omega arith) sized (search rules) c.in_ok-filled-2.ensures.ok all)
@@ -46,8 +46,8 @@ pub returns-in_err-filled-2-clause-gives : goal.returns-in_err-filled-2-clause-g
 returns-in_err-filled-2-clause-gives g c =
     let error = err_from_is_err_and c.from_residual-in_err-filled-2.result c.from_residual-in_err-filled-2.ensures.1 in
     let given = c.in_err-filled-2.ensures in
-    let bounded : number_in c.args.order 4 (drop 8 c.fill.new.buf) ≤ 262144 = omega (arith, c.u32_at-captured.ensures) in
-    let sized : c.in_err-filled-2.field-0.0 ≡ ReadFault → length c.read_bytes.new.bytes.items ≡ number_in c.args.order 4 (drop 8 c.fill.new.buf) =
+    let bounded : number_in c.args.at.order 4 (drop 8 c.fill.new.buf) ≤ 262144 = omega (arith, c.u32_at-captured.ensures) in
+    let sized : c.in_err-filled-2.field-0.0 ≡ ReadFault → length c.read_bytes.new.bytes.items ≡ number_in c.args.at.order 4 (drop 8 c.fill.new.buf) =
     λ fault. given.sized (ap Err fault) ∙ c.u32_at-captured.ensures in
     rw (error.1, error.2) (gives-body-Err _ _ _ _ _ _ _ _ _ _ c.read_bytes.new.bytes.items _ c.in_ok-filled.ensures.bytes (search rules) (omega arith) (omega arith) bounded
     given.told given.only (λ fault. given.part (ap Err fault)) sized)

@@ -1,12 +1,12 @@
 -- What was copied stood in front of what is left.
-use Rattle.std.proofs.Common.{◌≡◌, ◌+◌, ◌≤◌, [], ◌++◌, length, take, drop, sym, ap, subst, ◌∙◌, arith, length-drop}
+use Rattle.std.proofs.Common.{◌≡◌, ◌+◌, ◌≤◌, [], ◌++◌, length, take, drop, sym, ap, subst, ◌∙◌, arith, rules, length-drop}
 use Rattle.capture_maker.specs.Made.{packet_records}
 use Rattle.capture_maker.proofs.Given.{ended, given, moved_on}
 use Rattle.capture_maker.proofs.maker.MakerSource.read.Goals as goal
 use Rattle.capture_maker.proofs.maker.MakerSource.read.Goals.{then-self-len, else-self-len}
 
-pub returns-clause-bytes : goal.returns-clause-bytes
-returns-clause-bytes c =
+pub returns-clause-reads : goal.returns-clause-reads
+returns-clause-reads c =
     let old = c.self.inside in
     let now = c.if-self-len.self-inside in
     let count = c.copy_front-count.result in
@@ -32,10 +32,14 @@ returns-clause-bytes c =
     let lent : c.from.result.now ≡ drop now.place now.piece = c.from.ensures in
     let few = c.copy_front-count.ensures.count in
     let fits : count ≤ length (drop now.place now.piece) = omega (arith, few, ap length lent) in
-    let copied = c.copy_front-count.ensures.copied ∙ ap (λ l. take count l ++ drop count c.args.buf.now) lent in (
-      stands ∙ given count now.place now.piece c.copy_front-count.new.to _ (packet_records now.index now.turns) fits copied,
-      λ none room.
-          let len = c.copy_front-count.auto.to in
-          let all : length now.piece ≡ now.place = omega (arith, none, room, len, few, within, ap length lent, length-drop now.place now.piece) in
-          ended (now.place + count) now.index now.piece now.turns (omega (arith, all)) (last all),
-    )
+    let copied = c.copy_front-count.ensures.copied ∙ ap (λ l. take count l ++ drop count c.args.buf.now) lent in
+    record {
+      bound = search rules;
+      bytes = (
+        stands ∙ given count now.place now.piece c.copy_front-count.new.to _ (packet_records now.index now.turns) fits copied,
+        λ none room.
+            let len = c.copy_front-count.auto.to in
+            let all : length now.piece ≡ now.place = omega (arith, none, room, len, few, within, ap length lent, length-drop now.place now.piece) in
+            ended (now.place + count) now.index now.piece now.turns (omega (arith, all)) (last all),
+      );
+    }

@@ -1,5 +1,5 @@
 -- The record that stands at the front is the one that the definition has there.
-use Rattle.std.proofs.Common.{◌≡◌, ◌+◌, ◌<◌, ◌≤◌, length, take, sym, arith, refl, rules}
+use Rattle.std.proofs.Common.{◌≡◌, ◌+◌, ◌<◌, ◌≤◌, length, arith, refl, rules}
 use Rattle.pcap_source.specs.Capture.{captured_length}
 use Rattle.pcap_source.proofs.InPlace.{standing_bytes, standing_data, standing_length, standing_next, standing_record}
 use Rattle.pcap_source.proofs.capture.Capture.next_in.Goals as goal

@@ -9,7 +9,7 @@ pub returns-then-begins_section : goal.returns-then-begins_section
 unfolding classic_header
 returns-then-begins_section c =
     let r = c.args.self.now in
-    let head : c.put.new.self ≡ r.word = c.put.ensures ∙ ap (λ l. l ++ c.as_slice-word.result.now) c.clear.ensures ∙ c.as_slice-word.ensures.bytes in
+    let head : c.put.new.self ≡ r.word = c.put.ensures.bytes ∙ ap (λ l. l ++ c.as_slice-word.result.now) c.clear.ensures ∙ c.as_slice-word.ensures.bytes in
     let made : c.of-self.result ≡ classic_header = c.of-self.ensures in
     let section : is_section r.word ≡ true = cc in
     rw (head, made) (begins r c.requires.stage c.requires.made c.requires.word section)

@@ -17,11 +17,11 @@ returns-then-u32_at-self-clause-rest c = λ ends left.
     let all : head ≡ drop start bytes = between_to_end bytes start (length bytes) (omega arith) in
     let few : length head ≤ stop_of r.section.order head =
     subst (λ l. length l ≤ stop_of r.section.order l) (sym all) (omega (arith, length-drop start bytes)) in
-    c.begin_head.ensures.rest few left ∙ crosses r bytes head left c.requires.behind c.requires.bare.fits (omega arith) same all
+    c.begin_head.ensures.rest few left ∙ crosses r bytes head left c.requires.border.behind c.requires.border.bare.fits (omega arith) same all
 
 pub returns-else-u32_at-self-clause-rest : goal.returns-else-u32_at-self-clause-rest
 returns-else-u32_at-self-clause-rest c = λ ends left.
     let r = c.args.self.now in
     let bytes = c.args.bytes.now in
     let told : c.u32_at.result ≡ number_in r.section.order 4 (drop r.skip bytes) = cc in
-    crosses-badly r bytes left c.requires.behind c.requires.bare.fits (omega arith) (λ same. c.if-u32_at-self.false (cc (told, same)))
+    crosses-badly r bytes left c.requires.border.behind c.requires.border.bare.fits (omega arith) (λ same. c.if-u32_at-self.false (cc (told, same)))

@@ -6,8 +6,8 @@ use Rattle.reassembly.specs.Segment.{accept, counts, held_after, from_zero, belo
 use Rattle.reassembly.proofs.Plains.{judged_few, resized, plain_accept, plain_judged}
 use Rattle.reassembly.proofs.plain.PlainReceiver.accept.Goals as goal
 
-pub overflow_add-result : goal.overflow_add-result
-overflow_add-result c =
+pub behind_old-requires : goal.behind_old-requires
+behind_old-requires c =
     let bytes = c.args.bytes.now in
     let cut = c.min-below.result in
     let rest : length (take (length bytes - cut) (drop cut bytes)) ≡ length bytes - cut = ap length (take_rest bytes cut) ∙ length-drop cut bytes in
@@ -15,23 +15,23 @@ overflow_add-result c =
     let old = few.old in
     omega arith
 
-next_is : (c : goal.After-struct_known-1) → c.next-next.result ≡ next_of c.self.inside.cells.items
+next_is : (c : goal.After-behind_old) → c.next-next.result ≡ next_of c.self.inside.cells.items
 next_is c = c.next-next.ensures ∙ ap (λ (r : Receiver). next_of r.cells) (sym c.self.view_is)
 
-abbrev before : (c : goal.After-struct_known-1) → Receiver
+abbrev before : (c : goal.After-behind_old) → Receiver
 before c = record { cells = c.self.inside.cells.items; fin = c.self.inside.fin; offer = c.self.inside.offer }
 
-limit_is : (c : goal.After-struct_known-1) → c.limit.result ≡ limit_at (before c) c.args.rbuf
+limit_is : (c : goal.After-behind_old) → c.limit.result ≡ limit_at (before c) c.args.rbuf
 limit_is c = c.limit.ensures ∙ ap (limit_of c.next-next.result c.self.inside.fin) c.wide.ensures.value
     ∙ ap (λ n. limit_of n c.self.inside.fin (wide_with n c.self.inside.offer c.args.rbuf)) (next_is c)
 
-begins : (c : goal.After-struct_known-1) → c.start_of-start.result.position ≡ from_zero (pos (next_of c.self.inside.cells.items) +ℤ c.args.d)
+begins : (c : goal.After-behind_old) → c.start_of-start.result.position ≡ from_zero (pos (next_of c.self.inside.cells.items) +ℤ c.args.d)
 begins c = c.start_of-start.ensures.position ∙ ap₂ (λ n (z : ℤ). from_zero (pos n +ℤ z)) (next_is c) (to_z-of_z c.ranges.d)
 
-begins_below : (c : goal.After-struct_known-1) → c.start_of-start.result.below ≡ below_zero (pos (next_of c.self.inside.cells.items) +ℤ c.args.d)
+begins_below : (c : goal.After-behind_old) → c.start_of-start.result.below ≡ below_zero (pos (next_of c.self.inside.cells.items) +ℤ c.args.d)
 begins_below c = c.start_of-start.ensures.below ∙ ap₂ (λ n (z : ℤ). below_zero (pos n +ℤ z)) (next_is c) (to_z-of_z c.ranges.d)
 
-same_cells : (c : goal.After-struct_known-1) (p : ℕ) → held c.deref_mut.result.now p ≡ held c.self.inside.cells.items p
+same_cells : (c : goal.After-behind_old) (p : ℕ) → held c.deref_mut.result.now p ≡ held c.self.inside.cells.items p
 same_cells c p =
     let old = c.self.inside.cells in
     let new = c.resize.new.self in
@@ -68,6 +68,6 @@ returns-clause-counts c =
     let judged_by : Before = record { next = c.next-next.result; limit = c.limit.result; rbuf = c.args.rbuf } in
     let told : judged_by ≡ record { next = next_of s.cells.items; limit = limit_at r c.args.rbuf; rbuf = c.args.rbuf }
     = ap₂ (λ n l. record { next = n; limit = l; rbuf = c.args.rbuf }) (next_is c) (limit_is c) in
-    plain_judged r c.args.d c.args.rbuf c.args.bytes.now c.start_of-start.result.position c.start_of-start.result.below c.min-below.result c.deref_mut.result.now judged_by c.write_all-placed.result
+    c.behind_old.ensures ∙ plain_judged r c.args.d c.args.rbuf c.args.bytes.now c.start_of-start.result.position c.start_of-start.result.below c.min-below.result c.deref_mut.result.now judged_by c.write_all-placed.result
     (begins c) (begins_below c) c.min-below.ensures told (same_cells c) c.write_all-placed.ensures.placed
     ∙ ap (λ (x : Receiver). counts x (pos (next_of x.cells) +ℤ c.args.d) c.args.bytes.now c.args.rbuf) c.self.view_is

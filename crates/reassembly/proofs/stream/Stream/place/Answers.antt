@@ -30,23 +30,23 @@ pub invariant_of-self-2 : goal.invariant_of-self-2
 invariant_of-self-2 c =
     let old = c.self.invariant.0 in (
       record {
-        laid = c.in_ok-placed.ensures.laid;
-        sized = c.in_ok-placed.ensures.sized;
+        laid = c.in_ok-placed.ensures.placed.laid;
+        sized = c.in_ok-placed.ensures.placed.sized;
         least = old.least;
         most = old.most;
-        fin = λ f e. c.in_ok-placed.ensures.bounded f (rw c.limit-limit.ensures (limit_fin _ _ _ f e)) (old.fin f e);
+        fin = λ f e. c.in_ok-placed.ensures.placed.bounded f (rw c.limit-limit.ensures (limit_fin _ _ _ f e)) (old.fin f e);
       },
       c.next-self-inside.ensures,
     )
 
 -- a signed argument stands in a call's clause as its bits
-begins : (c : goal.After-struct_known-1) → c.start_of-start.result.position ≡ from_zero (pos (window_of c.self.inside.buffer).next +ℤ c.args.d)
+begins : (c : goal.After-behind_old) → c.start_of-start.result.position ≡ from_zero (pos (window_of c.self.inside.buffer).next +ℤ c.args.d)
 begins c = c.start_of-start.ensures.position ∙ ap₂ (λ x (z : ℤ). from_zero (pos x +ℤ z)) c.self.invariant.1 (to_z-of_z c.ranges.d)
 
-begins_below : (c : goal.After-struct_known-1) → c.start_of-start.result.below ≡ below_zero (pos (window_of c.self.inside.buffer).next +ℤ c.args.d)
+begins_below : (c : goal.After-behind_old) → c.start_of-start.result.below ≡ below_zero (pos (window_of c.self.inside.buffer).next +ℤ c.args.d)
 begins_below c = c.start_of-start.ensures.below ∙ ap₂ (λ x (z : ℤ). below_zero (pos x +ℤ z)) c.self.invariant.1 (to_z-of_z c.ranges.d)
 
-ends : (c : goal.After-struct_known-1) → c.limit-limit.result ≡ limit_of (window_of c.self.inside.buffer).next c.self.inside.fin c.args.wide
+ends : (c : goal.After-behind_old) → c.limit-limit.result ≡ limit_of (window_of c.self.inside.buffer).next c.self.inside.fin c.args.wide
 ends c = c.limit-limit.ensures ∙ ap (λ x. limit_of x c.self.inside.fin c.args.wide) c.self.invariant.1
 
 pub returns-clause-stands : goal.returns-clause-stands
@@ -56,7 +56,7 @@ returns-clause-stands c r h is_wide =
     → StandsFor (view_of (window_of c.place.new.self) s.fin s.rbuf) (accept r (pos (next_of r.cells) +ℤ c.args.d) c.args.bytes.now c.args.policy k.rbuf)) c.self.view_is
     (stream_stands (window_of s.buffer) (window_of c.place.new.self) s.fin s.rbuf c.args.wide c.limit-limit.result c.args.d c.args.bytes.now c.args.policy
     c.start_of-start.result.position c.start_of-start.result.below c.min-below.result
-    (begins c) (begins_below c) c.min-below.ensures (ends c) (c.in_ok-placed.ensures.steps s.fin) r)
+    (begins c) (begins_below c) c.min-below.ensures (ends c) (c.in_ok-placed.ensures.placed.steps s.fin) r)
     h is_wide
 
 pub returns-clause-counts : goal.returns-clause-counts
@@ -64,7 +64,7 @@ returns-clause-counts c r h is_wide =
     let s = c.self.inside in
     let placed = c.in_ok-placed.placed in
     let made : Placed = record { new = placed.new; old = c.min-below.result + placed.old; differ = placed.differ; over = placed.over } in
-    subst (λ (k : StreamView). StandsFor k r → c.args.wide ≡ wide_of r k.rbuf → made ≡ counts r (pos (next_of r.cells) +ℤ c.args.d) c.args.bytes.now k.rbuf) c.self.view_is
+    c.behind_old.ensures ∙ subst (λ (k : StreamView). StandsFor k r → c.args.wide ≡ wide_of r k.rbuf → made ≡ counts r (pos (next_of r.cells) +ℤ c.args.d) c.args.bytes.now k.rbuf) c.self.view_is
     (stream_counts (window_of s.buffer) s.fin s.rbuf c.args.wide c.limit-limit.result c.args.d c.args.bytes.now c.start_of-start.result.position c.start_of-start.result.below c.min-below.result placed
-    (begins c) (begins_below c) c.min-below.ensures (ends c) (c.in_ok-placed.ensures.counts s.fin) r)
+    (begins c) (begins_below c) c.min-below.ensures (ends c) (c.in_ok-placed.ensures.judged.counts s.fin) r)
     h is_wide

@@ -1,7 +1,8 @@
-use Rattle.std.proofs.Common.{◌≡◌, ℕ, ◌+◌, ◌-◌, ◌≤◌, arith, ap, ◌∙◌, length, take, drop}
+use Rattle.std.proofs.Common.{◌≡◌, ℕ, ◌+◌, ◌-◌, ◌≤◌, arith, ap, ◌∙◌, length, take, drop, Option, rules}
 use Rattle.reassembly.specs.Runs.{run_at, is_covered}
 use Rattle.reassembly.specs.Waiting.{runs_of}
-use Rattle.reassembly.specs.Window.{IsBounded, cell_at, taken_tally}
+use Rattle.reassembly.specs.Steps.{StepsTo}
+use Rattle.reassembly.specs.Window.{IsBounded, IsSized, cell_at, taken_tally, view_of}
 use Rattle.reassembly.proofs.Placing.{IsCut, cut_at, middle_end, rest_end, placed_cell, counts_placed, steps_placed}
 use Rattle.reassembly.proofs.Again.{IsAgain, again_from, cells_placed, tally_met, same_bound, accepted_again, tally_again}
 use Rattle.reassembly.proofs.window.Window.place.Goals as goal
@@ -40,9 +41,6 @@ bounded c m l old =
     let laid = same_bound c.take.new.self c.repeat-again.new.self m c.repeat-again.ensures.place.0 c.repeat-again.ensures.place.1 mid in
     same_bound c.repeat-again.new.self c.forget.new.self m c.forget.ensures.place.0 c.forget.ensures.place.1 laid
 
-pub returns-clause-bounded : goal.returns-clause-bounded
-returns-clause-bounded c m l old = bounded c m l old
-
 rises : (c : goal.After-drop-met-2) → c.args.self.now.next ≤ c.repeat-again.new.self.next
 rises c =
     let ready : c.meet.new.self.next ≡ c.args.self.now.next = c.meet.ensures.place.0 in
@@ -50,8 +48,8 @@ rises c =
     let laid : c.repeat-again.new.self.next ≡ c.take.new.self.next = c.repeat-again.ensures.place.0 in
     omega arith
 
-pub returns-clause-sized : goal.returns-clause-sized
-returns-clause-sized c =
+sized : (c : goal.After-drop-met-2) → IsSized c.forget.new.self c.args.rbuf
+sized c =
     let edge = c.args.self.now.next + c.args.rbuf in
     let old : IsBounded c.args.self.now edge = record { next = omega arith; runs = c.requires.ready.sized.span } in
     let new = bounded c edge c.requires.window old in
@@ -70,8 +68,9 @@ placed c p l =
     cells_placed c.args.self.now c.meet.new.self c.take.new.self c.repeat-again.new.self c.args.start _ _ _ _ c.args.policy c.args.segment.now (omega arith)
     c.meet.ensures.place.0 c.meet.ensures.place.1 c.meet.ensures.grown c.in_ok-tally.ensures.base c.in_ok-tally.ensures.cells c.repeat-again.ensures.cells p l
 
-pub returns-clause-steps : goal.returns-clause-steps
-returns-clause-steps c fin =
+steps : (c : goal.After-drop-met-2) (fin : Option ℕ)
+    → StepsTo c.args.limit c.args.start c.args.segment.now c.args.policy (view_of c.args.self.now fin c.args.rbuf) (view_of c.forget.new.self fin c.args.rbuf)
+steps c fin =
     steps_placed c.args.self.now c.repeat-again.new.self c.forget.new.self fin c.args.rbuf c.args.limit c.end.result c.args.start
     c.count_under-below.result c.count_under-within.result c.max-reach.result c.args.policy c.args.segment.now
     (record {
@@ -88,18 +87,24 @@ returns-clause-steps c fin =
     })
     c.end.ensures.bounded (cut_after c)
 
-pub returns-clause-counts : goal.returns-clause-counts
-returns-clause-counts c fin =
-    let within = c.count_under-within.result in
-    let below = c.count_under-below.result in
-    let reach = c.max-reach.result in
-    let segment = c.args.segment.now in
-    let rest = take (reach - within) (drop within segment) in
-    let told : c.repeat-again.result ≡ taken_tally c.args.self.now (c.args.start + within) rest
-    = (rw c.deref.ensures.value at c.repeat-again.ensures.tally)
-    ∙ tally_again c.args.self.now c.take.new.self c.in_ok-met.met.items (c.args.start + within) (c.args.start + reach) rest
-    (rest_end _ _ _ c.args.start _ _ _ segment (cut_after c)) (again_after c) in
-    counts_placed c.args.self.now fin c.args.rbuf c.args.limit c.end.result c.args.start below within reach segment c.requires.ready.laid c.end.ensures.bounded (cut_after c)
-    c.in_ok-tally.tally c.repeat-again.result c.compare-differ.result _ (omega arith)
-    (c.in_ok-tally.ensures.tally ∙ tally_met c.args.self.now c.meet.new.self _ (take (within - below) (drop below segment)) c.meet.ensures.place.1 c.meet.ensures.grown)
-    told c.compare-differ.ensures.value
+pub returns-clause-placed : goal.returns-clause-placed
+returns-clause-placed c = record { laid = c.forget.ensures.laid; sized = sized c; bounded = bounded c; steps = steps c }
+
+pub returns-clause-judged : goal.returns-clause-judged
+returns-clause-judged c = record {
+  counts = λ fin.
+      let within = c.count_under-within.result in
+      let below = c.count_under-below.result in
+      let reach = c.max-reach.result in
+      let segment = c.args.segment.now in
+      let rest = take (reach - within) (drop within segment) in
+      let told : c.repeat-again.result ≡ taken_tally c.args.self.now (c.args.start + within) rest
+      = (rw c.deref.ensures.value at c.repeat-again.ensures.tally)
+      ∙ tally_again c.args.self.now c.take.new.self c.in_ok-met.met.items (c.args.start + within) (c.args.start + reach) rest
+      (rest_end _ _ _ c.args.start _ _ _ segment (cut_after c)) (again_after c) in
+      counts_placed c.args.self.now fin c.args.rbuf c.args.limit c.end.result c.args.start below within reach segment c.requires.ready.laid c.end.ensures.bounded (cut_after c)
+      c.in_ok-tally.tally c.repeat-again.result c.compare-differ.result _ (omega arith)
+      (c.in_ok-tally.ensures.tally ∙ tally_met c.args.self.now c.meet.new.self _ (take (within - below) (drop below segment)) c.meet.ensures.place.1 c.meet.ensures.grown)
+      told c.compare-differ.ensures.value;
+  bounds = search rules;
+}

@@ -32,14 +32,14 @@ taken c =
 pub returns-clause-laid : goal.returns-clause-laid
 returns-clause-laid c = record {
   keyed = c.lay.ensures.place.keyed;
-  held = held_taken c.args.self.now c.meet.new.self.bytes c.in_ok-met.met.items (after c) c.args.low c.args.bytes.now c.args.policy c.requires.laid c.in_ok-met.ensures.ready (taken c);
+  held = held_taken c.args.self.now c.meet.new.self.bytes c.in_ok-met.met.items (after c) c.args.low c.args.bytes.now c.args.policy c.requires.room.laid c.in_ok-met.ensures.ready (taken c);
   ordered = c.in_ok-accept.ensures.ordered;
   above = c.in_ok-accept.ensures.above;
 }
 
 pub returns-clause-cells : goal.returns-clause-cells
 returns-clause-cells c p l =
-    cells_taken c.args.self.now c.meet.new.self.bytes c.in_ok-met.met.items (after c) c.args.low c.args.bytes.now c.args.policy c.requires.laid (from_next c) (taken c) p l
+    cells_taken c.args.self.now c.meet.new.self.bytes c.in_ok-met.met.items (after c) c.args.low c.args.bytes.now c.args.policy c.requires.room.laid (from_next c) (taken c) p l
 
 judged : (c : goal.After-drop-met-2) → c.lay.result ≡ taken_tally c.args.self.now c.args.low c.args.bytes.now
 judged c = (rw (c.deref-2.ensures.value, c.accept.ensures.bytes) at c.lay.ensures.judged)
