@@ -5,7 +5,7 @@ use Rattle.native_filters.specs.declared.facts.Hook.TheVariants.{Snd, Rcv}
 use Rattle.app_api.specs.Events.{EventRow, raised_at}
 
 -- a row of one table says of a side what the row of another does at its place, if the columns are the same
-pub sender-at : {N : Type 0} (rows : List EventRow) (table : List (N × Bool × Bool)) (i : ℕ) (d : N × Bool × Bool)
+pub sender-at : {N M : Type 0} (rows : List EventRow) (table : List (N × Bool × Bool × M)) (i : ℕ) (d : N × Bool × Bool × M)
     → map (λ t. t.1) table ≡ map (λ r. r.at_sender) rows → i < length table → (get_or table i d).1 ≡ raised_at (slice_get rows i) Snd
 sender-at rows [] i d same within = absurd (omega arith)
 sender-at [] (u ∷ table) i d same within = cc
@@ -15,7 +15,7 @@ sender-at (r ∷ rows) (u ∷ table) (suc i) d same within =
     let less : i < length table = omega arith in
     sender-at rows table i d rest less
 
-pub receiver-at : {N : Type 0} (rows : List EventRow) (table : List (N × Bool × Bool)) (i : ℕ) (d : N × Bool × Bool)
+pub receiver-at : {N M : Type 0} (rows : List EventRow) (table : List (N × Bool × Bool × M)) (i : ℕ) (d : N × Bool × Bool × M)
     → map (λ t. t.2) table ≡ map (λ r. r.at_receiver) rows → i < length table → (get_or table i d).2 ≡ raised_at (slice_get rows i) Rcv
 receiver-at rows [] i d same within = absurd (omega arith)
 receiver-at [] (u ∷ table) i d same within = cc
@@ -26,7 +26,7 @@ receiver-at (r ∷ rows) (u ∷ table) (suc i) d same within =
     receiver-at rows table i d rest less
 
 -- behind a table there is no row
-pub none-at : {N : Type 0} (rows : List EventRow) (table : List (N × Bool × Bool)) (i : ℕ) (hook : Hook)
+pub none-at : {N M : Type 0} (rows : List EventRow) (table : List (N × Bool × Bool × M)) (i : ℕ) (hook : Hook)
     → map (λ t. t.1) table ≡ map (λ r. r.at_sender) rows → length table ≤ i → false ≡ raised_at (slice_get rows i) hook
 none-at [] [] i hook same past = refl
 none-at (r ∷ rows) [] i hook same past = cc

@@ -3,7 +3,7 @@
 ghost use Rattle.std.specs.Prelude.{◌≡◌, ◌≤◌, ◌<◌, List, length, map, slice_get, IfSome};
 ghost use Rattle.std.specs.Option.{option_copied};
 ghost use Rattle.app_api.specs.Events.{START as FIRST, LAST, EventRow, is_built_in, place_of, raised_at, allows_hook};
-ghost use Rattle.app_api.specs.Names.{event_name, event_named};
+ghost use Rattle.app_api.specs.Names.{IsLabel, event_name, event_named};
 
 use native_filters::Hook;
 
@@ -32,17 +32,30 @@ pub const LAST_EVENT: u16 = TIMER;
 /// How many built-in events there are.
 pub const EVENTS: usize = 9;
 
-// In order of their numbers: the name of each, and whether it is raised at the sender and at the receiver.
-const TABLE: [(&str, bool, bool); EVENTS] = [
-    ("start", true, false),
-    ("pkt_in", true, true),
-    ("rexmit", false, true),
-    ("new_data", false, true),
-    ("error", false, true),
-    ("state", true, true),
-    ("end", false, true),
-    ("orphan", true, false),
-    ("timer", false, true),
+// A row of the table: an event's name, and whether it is raised at the sender and at the receiver.
+macro_rules! row {
+    ($name:literal, $at_sender:literal, $at_receiver:literal) => {
+        (
+            $name,
+            $at_sender,
+            $at_receiver,
+            concat!($name, "                "),
+        )
+    };
+}
+
+// In order of their numbers. Behind each name, which has at most ten bytes, and the two sides stands the name again with sixteen
+// blanks behind it.
+static TABLE: [(&str, bool, bool, &str); EVENTS] = [
+    row!("start", true, false),
+    row!("pkt_in", true, true),
+    row!("rexmit", false, true),
+    row!("new_data", false, true),
+    row!("error", false, true),
+    row!("state", true, true),
+    row!("end", false, true),
+    row!("orphan", true, false),
+    row!("timer", false, true),
 ];
 
 /// Whether a number is a built-in event.
@@ -64,7 +77,7 @@ pub(crate) fn place_of(event: u16) -> usize
 }
 
 // Whether the row at a place of a table says that its event is raised at a side.
-fn says(rows: &[(&str, bool, bool)], place: usize, hook: Hook) -> bool
+fn says(rows: &[(&str, bool, bool, &str)], place: usize, hook: Hook) -> bool
     ensures { (table : List EventRow) → map (λ r. r.1) rows.now ≡ map (λ r. r.at_sender) table
         → map (λ r. r.2) rows.now ≡ map (λ r. r.at_receiver) table
         → result ≡ raised_at (slice_get table place) hook }
@@ -92,6 +105,18 @@ pub fn event_name(event: u16) -> Option<&'static str>
 {
     let place = usize::from(event.checked_sub(START)?);
     (place < TABLE.len()).then(|| TABLE[place].0)
+}
+
+/// The name of a built-in event with sixteen blanks behind it, and how many bytes the name has. No other number has one.
+#[inline(always)]
+pub fn event_label(event: u16) -> Option<(&'static str, usize)>
+    ensures { IfSome result (λ label. IsLabel label.0.now label.1 event) }
+{
+    if event < START || event > LAST_EVENT {
+        return None;
+    }
+    let place = usize::from(event - START);
+    Some((TABLE[place].3, TABLE[place].0.len()))
 }
 
 /// The built-in event of a name.

@@ -12,7 +12,7 @@ mod answers;
 mod app;
 mod changes;
 mod entry;
-mod events;
+pub mod events;
 mod hearers;
 mod lists;
 mod log;
@@ -26,7 +26,7 @@ pub use changes::{Change1, Changes, MOST_CHANGES};
 pub use entry::{Entry, Seen};
 pub use events::{
     END, ERROR, LAST_EVENT, NEW_DATA, ORPHAN, PKT_IN, REXMIT, START, STATE, TIMER, allows_hook,
-    event_name, event_named, is_built_in,
+    event_label, event_name, event_named, is_built_in,
 };
 pub use hearers::{Heard, Hearers};
 pub use lists::{ActiveList, Bytes, DropList, EntryList, FieldList, PieceList};

@@ -1,6 +1,6 @@
 -- Not of the headline. What the lists of raises say, in the words of the subject.
-use Rattle.std.specs.Prelude.{◌≡◌, ℕ, Bool, true, List, map, IsTrue, nat_lt, not, ◌==◌}
-use Rattle.std.specs.List.{list_any, list_all}
+use Rattle.std.specs.Prelude.{◌≡◌, ℕ, Bool, true, List, [], ◌∷◌, map, IsTrue, nat_lt, not, ◌==◌}
+use Rattle.std.specs.List.{list_any, list_all, AllByRecursion}
 use Rattle.packet_views.specs.declared.packet.Head.{Head}
 use Rattle.tcp_emulation.specs.declared.segment.Side.{Side}
 use Rattle.app_api.specs.Events.{START, PKT_IN, REXMIT, NEW_DATA, ERROR, STATE, END, allows_hook}
@@ -23,21 +23,26 @@ IsInOrder raises = IsTrue (rise_from START (map (λ r. r.event) raises))
 abbrev pub IsAtItsSide : List Raise → Type 0
 IsAtItsSide raises = IsTrue (list_all (λ r. allows_hook r.event r.hook) raises)
 
--- at the sender exactly these events are raised, each exactly where its condition holds
+-- of these events each is raised exactly where the condition beside it holds
+abbrev pub AreRaisedWhere : List (Bool × ℕ) → List Raise → Type 0
+AreRaisedWhere rows raises = AllByRecursion (λ row. is_raised row.1 raises ≡ row.0) rows
+
+-- at the sender these events are raised, each exactly where its condition holds
 pub record RaisesAtSender (h : Head) (from : Side) (nth : ℕ) (first : Bool) (s : Sent) : Type 0 where
   pub order : IsInOrder (sender_raises h from nth first s)
   pub side : IsAtItsSide (sender_raises h from nth first s)
-  pub start : is_raised START (sender_raises h from nth first s) ≡ first
-  pub pkt_in : is_raised PKT_IN (sender_raises h from nth first s) ≡ true
-  pub state : is_raised STATE (sender_raises h from nth first s) ≡ is_changed (sender_facts h from nth s)
+  pub each : AreRaisedWhere ((first, START) ∷ (true, PKT_IN) ∷ (is_changed (sender_facts h from nth s), STATE) ∷ []) (sender_raises h from nth first s)
 
 -- and at the receiver these
 pub record RaisesAtReceiver (h : Head) (from : Side) (nth : ℕ) (g : Got) : Type 0 where
   pub order : IsInOrder (receiver_raises h from nth g)
   pub side : IsAtItsSide (receiver_raises h from nth g)
-  pub pkt_in : is_raised PKT_IN (receiver_raises h from nth g) ≡ true
-  pub rexmit : is_raised REXMIT (receiver_raises h from nth g) ≡ nat_lt 0 (receiver_facts h from nth g).rexlen
-  pub new_data : is_raised NEW_DATA (receiver_raises h from nth g) ≡ g.rose
-  pub error : is_raised ERROR (receiver_raises h from nth g) ≡ not ((receiver_facts h from nth g).fault == 0)
-  pub state : is_raised STATE (receiver_raises h from nth g) ≡ is_changed (receiver_facts h from nth g)
-  pub over : is_raised END (receiver_raises h from nth g) ≡ g.over
+  pub each : AreRaisedWhere
+      ((true, PKT_IN)
+      ∷ (nat_lt 0 (receiver_facts h from nth g).rexlen, REXMIT)
+      ∷ (g.rose, NEW_DATA)
+      ∷ (not ((receiver_facts h from nth g).fault == 0), ERROR)
+      ∷ (is_changed (receiver_facts h from nth g), STATE)
+      ∷ (g.over, END)
+      ∷ [])
+      (receiver_raises h from nth g)

@@ -1,17 +1,17 @@
 //! Whether anything is heard of what a packet raises, which is known before there are facts.
 
-ghost use Rattle.std.specs.Prelude.{◌≡◌, ◌&&◌, ◌||◌, ◌==◌, not, nat_lt, ℕ};
+ghost use Rattle.std.specs.Prelude.{◌≡◌, ◌==◌, not, nat_lt, ℕ, [], ◌∷◌};
 ghost use Rattle.packet_views.specs.declared.packet.Head.{Head as HeadOf};
 ghost use Rattle.tcp_emulation.specs.declared.segment.Side.{Side};
 ghost use Rattle.tcp_emulation.specs.States.{number_of};
 ghost use Rattle.builtin_events.specs.Facts.{read_bytes};
 ghost use Rattle.app_api.specs.Events as events;
-ghost use Rattle.app_api.specs.Hearers.{is_heard_in};
-ghost use Rattle.builtin_events.specs.Heard.{is_any_heard};
+ghost use Rattle.builtin_events.specs.Heard.{is_any_heard, hears};
 ghost use Rattle.builtin_events.specs.Raises.{sender_raises, receiver_raises};
 
 use crate::facts::read_bytes;
-use app_api::{END, ERROR, Heard, NEW_DATA, PKT_IN, REXMIT, START, STATE};
+use app_api::Heard;
+use app_api::events::{END, ERROR, NEW_DATA, PKT_IN, REXMIT, START, STATE};
 use flow_socket::{Got, Sent};
 use packet_views::Head;
 
@@ -28,8 +28,8 @@ pub fn is_heard_at_sender(heard: &Heard, first: bool, s: &Sent) -> bool
 
 // The same of what its payload raises at its receiver: `rexmit`, `new_data` and `error`.
 fn is_payload_heard(heard: &Heard, h: &Head, g: &Got) -> bool
-    ensures { result ≡ ((nat_lt 0 (read_bytes h.now g.now.placed.old) && is_heard_in heard.now events.REXMIT)
-        || ((g.now.rose && is_heard_in heard.now events.NEW_DATA) || (not (g.now.fault == 0) && is_heard_in heard.now events.ERROR))) }
+    ensures { result ≡ hears heard.now ((nat_lt 0 (read_bytes h.now g.now.placed.old), events.REXMIT)
+        ∷ (g.now.rose, events.NEW_DATA) ∷ (not (g.now.fault == 0), events.ERROR) ∷ []) }
 {
     g.rose && heard.is_heard(NEW_DATA)
         || heard.is_heard(REXMIT) && read_bytes(h, g.placed.old) > 0
@@ -38,8 +38,8 @@ fn is_payload_heard(heard: &Heard, h: &Head, g: &Got) -> bool
 
 // The same of what its state raises there: `state` and `end`.
 fn is_state_heard(heard: &Heard, g: &Got) -> bool
-    ensures { result ≡ ((not (number_of g.now.change.old == number_of g.now.change.new) && is_heard_in heard.now events.STATE)
-        || (g.now.over && is_heard_in heard.now events.END)) }
+    ensures { result ≡ hears heard.now ((not (number_of g.now.change.old == number_of g.now.change.new), events.STATE)
+        ∷ (g.now.over, events.END) ∷ []) }
 {
     heard.is_heard(STATE) && g.change.old.number() != g.change.new.number()
         || g.over && heard.is_heard(END)

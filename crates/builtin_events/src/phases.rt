@@ -12,12 +12,15 @@ ghost use Rattle.builtin_events.specs.Raises.{sender_raises, receiver_raises, or
 use crate::facts::{orphan_facts, read_bytes, receiver_facts, sender_facts, timer_facts};
 use crate::raise::RaiseList;
 use crate::raised::{EventList, Raised};
-use app_api::{END, ERROR, NEW_DATA, ORPHAN, PKT_IN, REXMIT, START, STATE, TIMER};
+use app_api::events::{END, ERROR, NEW_DATA, ORPHAN, PKT_IN, REXMIT, START, STATE, TIMER};
 use flow_socket::{Got, Sent};
 use flow_table::Endpoint;
 use native_filters::Hook;
 use packet_views::{Class, Head};
 use tcp_emulation::Side;
+
+/// How many events one phase may raise.
+pub(crate) const MOST_RAISES: usize = 6;
 
 /// What a packet raises at its sender, after the sender's step: `start` where it is the connection's
 /// first packet, `pkt_in`, and `state` where the sender's state changed. `nth` is the packet's place in

@@ -2,6 +2,7 @@
 
 ghost use Rattle.std.specs.Prelude.{◌≡◌, ◌<◌, ◌≤◌, [], ◌∷◌, ◌++◌, length};
 
+use crate::phases::MOST_RAISES;
 use native_filters::{Facts, Hook};
 use std::marker::Model;
 
@@ -16,25 +17,23 @@ pub struct Raise {
     pub facts: Facts,
 }
 
-/// How many events one phase may raise.
-const MOST: usize = 6;
-
-/// The raises of one phase in order, at most six. Contracts see the list of them.
+/// The raises of one phase in order, at most [`MOST_RAISES`]. Contracts see the list of them.
 #[derive(Debug, Drop)]
 pub struct RaiseList {
-    items: [Raise; MOST],
+    items: [Raise; MOST_RAISES],
     count: usize,
 }
 
 impl Model for RaiseList {
     ghost use Rattle.std.specs.Prelude.{◌≡◌, ◌≤◌, List, take, length};
     ghost use Rattle.builtin_events.specs.declared.raise.Raise.{Raise};
+    ghost use Rattle.builtin_events.specs.declared.phases.TheConstants.{MOST_RAISES};
 
     ghost Value = { List Raise };
 
     ghost view = { λ l. take l.count l.items };
 
-    ghost invariant = { λ l. (l.count ≤ 6) × (length l.items ≡ 6) };
+    ghost invariant = { λ l. (l.count ≤ MOST_RAISES) × (length l.items ≡ MOST_RAISES) };
 }
 
 impl RaiseList {
@@ -48,14 +47,14 @@ impl RaiseList {
             facts: Facts::none(),
         };
         RaiseList {
-            items: [blank; MOST],
+            items: [blank; MOST_RAISES],
             count: 0,
         }
     }
 
     /// Adds a raise at the end.
     pub(crate) fn add(&mut self, raise: Raise)
-        requires { length self.old < 6 }
+        requires { length self.old < MOST_RAISES }
         ensures { self.new ≡ self.old ++ raise ∷ [] }
     {
         self.items[self.count] = raise;
@@ -65,7 +64,7 @@ impl RaiseList {
     /// The raises in order.
     pub fn as_slice(&self) -> &[Raise]
         ensures items { result.now ≡ self.now }
-        ensures within { length self.now ≤ 6 }
+        ensures within { length self.now ≤ MOST_RAISES }
     {
         &self.items[..self.count]
     }

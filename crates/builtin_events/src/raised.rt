@@ -3,6 +3,7 @@
 ghost use Rattle.std.specs.Prelude.{◌≡◌, ◌+◌, ◌<◌, ◌≤◌, [], ◌++◌, length};
 ghost use Rattle.builtin_events.specs.Raised.{event_if, raises_of};
 
+use crate::phases::MOST_RAISES;
 use crate::raise::{Raise, RaiseList};
 use arrayvec::ArrayVec;
 use native_filters::{Facts, Hook};
@@ -19,23 +20,21 @@ pub struct Raised {
     pub events: EventList,
 }
 
-/// How many events one phase may raise.
-const MOST: usize = 6;
-
-/// The numbers of events, at most six. Contracts see the list of them.
+/// The numbers of events, at most [`MOST_RAISES`]. Contracts see the list of them.
 #[derive(Debug, Drop)]
 pub struct EventList {
-    items: ArrayVec<u16, MOST>,
+    items: ArrayVec<u16, MOST_RAISES>,
 }
 
 impl Model for EventList {
     ghost use Rattle.std.specs.Prelude.{◌≤◌, ℕ, List, length};
+    ghost use Rattle.builtin_events.specs.declared.phases.TheConstants.{MOST_RAISES};
 
     ghost Value = { List ℕ };
 
     ghost view = { λ l. l.items.items };
 
-    ghost invariant = { λ l. length l.items.items ≤ 6 };
+    ghost invariant = { λ l. length l.items.items ≤ MOST_RAISES };
 }
 
 impl EventList {
@@ -50,7 +49,7 @@ impl EventList {
 
     /// Adds an event at the end where a condition holds.
     pub(crate) fn add_if(&mut self, holds: bool, event: u16)
-        requires { length self.old < 6 }
+        requires { length self.old < MOST_RAISES }
         ensures items { self.new ≡ self.old ++ event_if holds event }
         ensures more { length self.new ≤ length self.old + 1 }
     {
@@ -62,7 +61,7 @@ impl EventList {
     /// The numbers in order.
     pub fn as_slice(&self) -> &[u16]
         ensures items { result.now ≡ self.now }
-        ensures within { length self.now ≤ 6 }
+        ensures within { length self.now ≤ MOST_RAISES }
     {
         self.items.as_slice()
     }

@@ -1,7 +1,6 @@
 -- What isn't heard changes nothing: neither a raise nor a phase of such raises.
-use Rattle.std.proofs.Common.{◌≡◌, ℕ, Bool, true, false, not, ◌==◌, ◌||◌, Option, List, [], ◌∷◌, ◌++◌, refl, sym, ap, subst, ◌∙◌}
-use Rattle.std.specs.Prelude.{nat_lt}
-use Rattle.std.specs.List.{AllByRecursion}
+use Rattle.std.proofs.Common.{◌≡◌, ℕ, Bool, true, false, ◌||◌, Option, List, [], ◌∷◌, refl, sym, ap, subst, ◌∙◌}
+use Rattle.std.specs.List.{list_all, AllByRecursion}
 use Rattle.native_filters.specs.declared.facts.Facts.{Facts}
 use Rattle.native_filters.specs.declared.facts.Hook.{Hook}
 use Rattle.native_filters.specs.declared.facts.Hook.TheVariants.{Snd, Rcv}
@@ -13,12 +12,13 @@ use Rattle.flow_socket.specs.declared.answers.Got.{Got}
 use Rattle.app_api.specs.declared.registration.Reg.{Reg}
 use Rattle.app_api.specs.App.{Meaning}
 use Rattle.app_api.specs.declared.hearers.Heard.{Heard}
-use Rattle.app_api.specs.Events.{START, PKT_IN, REXMIT, NEW_DATA, ERROR, STATE, END, is_built_in}
+use Rattle.app_api.specs.Events.{is_built_in}
 use Rattle.app_api.specs.Hearers.{is_any, is_heard_in}
 use Rattle.builtin_events.specs.declared.raise.Raise.{Raise}
 use Rattle.builtin_events.specs.Facts.{sender_facts, receiver_facts}
 use Rattle.builtin_events.specs.Heard.{is_any_heard}
-use Rattle.builtin_events.specs.Raises.{raise_if, is_changed, sender_raises, receiver_raises}
+use Rattle.builtin_events.specs.RaiseLaws.{Row, events_of, all_raised}
+use Rattle.builtin_events.specs.Raises.{raised_where, sender_events, receiver_events, sender_raises, receiver_raises}
 use Rattle.shared_forest.specs.Listing.{Shown}
 use Rattle.shared_forest.specs.Heard.{is_heard, AreHeard}
 use Rattle.event_trees.specs.Fires.{fires}
@@ -89,46 +89,8 @@ record IsAt (hook : Hook) (raise : Raise) : Type 0 where
   side : raise.hook ≡ hook
   known : is_built_in raise.event ≡ true
 
-all-if : (hook : Hook) (b : Bool) (raise : Raise) → IsAt hook raise → AllByRecursion (IsAt hook) (raise_if b raise)
-all-if hook true raise is = (is, tt)
-all-if hook false raise is = tt
-
-all-on : (hook : Hook) (xs ys : List Raise) → AllByRecursion (IsAt hook) xs → AllByRecursion (IsAt hook) ys → AllByRecursion (IsAt hook) (xs ++ ys)
-all-on hook [] ys left right = right
-all-on hook (x ∷ xs) ys left right = (left.0, all-on hook xs ys left.1 right)
-
-abbrev made_at : Hook → Facts → ℕ → Raise
-made_at hook facts event = record { hook = hook; event = event; facts = facts }
-
-one_more : (hook : Hook) (facts : Facts) (event : ℕ) (b : Bool) (xs : List Raise) → is_built_in event ≡ true → AllByRecursion (IsAt hook) xs
-    → AllByRecursion (IsAt hook) (xs ++ raise_if b (made_at hook facts event))
-one_more hook facts event b xs known left =
-    all-on hook xs (raise_if b (made_at hook facts event)) left (all-if hook b (made_at hook facts event) (record { side = refl; known = known }))
-
-sender-at : (h : Head) (from : Side) (nth : ℕ) (first : Bool) (sent : Sent) → AllByRecursion (IsAt Snd) (sender_raises h from nth first sent)
-unfolding sender_raises
-sender-at h from nth first sent =
-    let f : Facts = sender_facts h from nth sent in
-    let start : List Raise = raise_if first (made_at Snd f START) in
-    let both : List Raise = start ++ raise_if true (made_at Snd f PKT_IN) in
-    one_more Snd f STATE (is_changed f) both refl
-    (one_more Snd f PKT_IN true start refl (all-if Snd first (made_at Snd f START) (record { side = refl; known = refl })))
-
-receiver-at : (h : Head) (from : Side) (nth : ℕ) (got : Got) → AllByRecursion (IsAt Rcv) (receiver_raises h from nth got)
-unfolding receiver_raises
-receiver-at h from nth got =
-    let f : Facts = receiver_facts h from nth got in
-    let one : List Raise = raise_if true (made_at Rcv f PKT_IN) in
-    let two : List Raise = one ++ raise_if (nat_lt 0 f.rexlen) (made_at Rcv f REXMIT) in
-    let three : List Raise = two ++ raise_if got.rose (made_at Rcv f NEW_DATA) in
-    let four : List Raise = three ++ raise_if (not (f.fault == 0)) (made_at Rcv f ERROR) in
-    let five : List Raise = four ++ raise_if (is_changed f) (made_at Rcv f STATE) in
-    one_more Rcv f END got.over five refl
-    (one_more Rcv f STATE (is_changed f) four refl
-    (one_more Rcv f ERROR (not (f.fault == 0)) three refl
-    (one_more Rcv f NEW_DATA got.rose two refl
-    (one_more Rcv f REXMIT (nat_lt 0 f.rexlen) one refl
-    (all-if Rcv true (made_at Rcv f PKT_IN) (record { side = refl; known = refl }))))))
+all_at : (hook : Hook) (facts : Facts) (rows : List Row) → list_all is_built_in (events_of rows) ≡ true → AllByRecursion (IsAt hook) (raised_where hook facts rows)
+all_at hook facts rows all = all_raised hook facts (IsAt hook) is_built_in (λ event known. record { side = refl; known = known }) rows all
 
 neither : (a b : Bool) → (a || b) ≡ false → (a ≡ false) × (b ≡ false)
 neither true b is = absurd (cc)
@@ -146,11 +108,17 @@ silent s list hook heard shown (raise ∷ raises) at all none is =
 pub sender_silent : (s : ControlState) (list : List Reg) (heard : Heard) (shown : List Shown) (h : Head) (from : Side) (nth : ℕ) (first : Bool) (sent : Sent)
     → AreHeard Snd heard shown → ((event : ℕ) → is_heard Snd event shown ≡ false → (facts : Facts) → fires s.defs facts Snd event list ≡ [])
     → is_any_heard heard (sender_raises h from nth first sent) ≡ false → CallNothing s list (sender_raises h from nth first sent)
+unfolding sender_raises
 sender_silent s list heard shown h from nth first sent all none is =
-    silent s list Snd heard shown (sender_raises h from nth first sent) (sender-at h from nth first sent) all none is
+    let facts = sender_facts h from nth sent in
+    let rows = sender_events facts first in
+    silent s list Snd heard shown (raised_where Snd facts rows) (all_at Snd facts rows refl) all none is
 
 pub receiver_silent : (s : ControlState) (list : List Reg) (heard : Heard) (shown : List Shown) (h : Head) (from : Side) (nth : ℕ) (got : Got)
     → AreHeard Rcv heard shown → ((event : ℕ) → is_heard Rcv event shown ≡ false → (facts : Facts) → fires s.defs facts Rcv event list ≡ [])
     → is_any_heard heard (receiver_raises h from nth got) ≡ false → CallNothing s list (receiver_raises h from nth got)
+unfolding receiver_raises
 receiver_silent s list heard shown h from nth got all none is =
-    silent s list Rcv heard shown (receiver_raises h from nth got) (receiver-at h from nth got) all none is
+    let facts = receiver_facts h from nth got in
+    let rows = receiver_events facts got in
+    silent s list Rcv heard shown (raised_where Rcv facts rows) (all_at Rcv facts rows refl) all none is

@@ -1,5 +1,5 @@
 -- A segment at a receiver: its payload first, then its FIN (RFC 9293, section 3.10.7.4). The segment begins at a signed distance from next.
-use Rattle.std.specs.Prelude.{ℕ, ◌+◌, ◌≤◌, ◌^◌, ℤ, pos, ◌+ℤ◌, ◌-ℤ◌, ◌≤ℤ◌, ◌<ℤ◌, Bool, true, false, ◌&&◌, List, length, if◌then◌else◌}
+use Rattle.std.specs.Prelude.{ℕ, ◌+◌, ◌≤◌, ◌^◌, ℤ, pos, ◌+ℤ◌, ◌-ℤ◌, ◌≤ℤ◌, ◌<ℤ◌, Bool, true, false, ◌&&◌, List, length, if◌then◌else◌, ◌≡◌, Result, OnOk, OnErr}
 use Rattle.reassembly.specs.declared.answers.Policy.{Policy}
 use Rattle.reassembly.specs.declared.answers.Placed.{Placed}
 use Rattle.reassembly.specs.declared.answers.FinNote.{FinNote}
@@ -61,3 +61,9 @@ pub record CanTake (s : StreamView) (distance : ℤ) (payload : List ℕ) (wide 
   pub bytes : length payload ≤ 65535
   pub next : s.next ≤ 2 ^ 62
   pub within : wide ≤ s.rbuf
+
+-- the buffer stays, next rises by it at most, and nothing changes where memory is refused
+pub record RisesByBuffer {T E : Type 0} (old new : StreamView) (result : Result T E) : Type 0 where
+  pub rbuf : new.rbuf ≡ old.rbuf
+  pub rise : OnOk result (new.next ≤ old.next + old.rbuf)
+  pub err : OnErr result (new ≡ old)

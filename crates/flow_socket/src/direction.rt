@@ -38,6 +38,7 @@ pub(crate) struct Taken {
 }
 
 impl KeptDirection {
+    ghost use Rattle.flow_socket.specs.Segment.{RisesByBuffer};
     ghost use Rattle.flow_socket.specs.View.{DirectionStandsFor, DirectionTells, DirectionStandsAfter};
     ghost use Rattle.flow_socket.specs.Direction.{untouched, direction_after, placed_in, is_fin_refused, is_in_window, is_finished, acks_syn, acks_fin, offered_in};
 
@@ -102,8 +103,7 @@ impl KeptDirection {
         requires next { self.old.stream.next ≤ 2 ^ 62 }
         requires rbuf { rbuf ≡ self.old.stream.rbuf }
         ensures err { OnErr result (self.new ≡ self.old) }
-        ensures rbuf { self.new.stream.rbuf ≡ self.old.stream.rbuf }
-        ensures rise { OnOk result (self.new.stream.next ≤ self.old.stream.next + self.old.stream.rbuf) }
+        ensures stream { RisesByBuffer self.old.stream self.new.stream result }
         ensures stands { OnOk result (DirectionStandsAfter rbuf self.old self.new
             (direction_after rbuf policy h.now payload.now)) }
         ensures placed { IfOk result (λ taken. DirectionTells rbuf self.old taken.placed

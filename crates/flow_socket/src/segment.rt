@@ -1,9 +1,9 @@
 //! A segment at a stream: its payload, and then its FIN.
 
-ghost use Rattle.std.specs.Prelude.{◌≡◌, ◌+◌, ◌-◌, ◌^◌, ◌≤◌, ◌≤ℤ◌, ◌<ℤ◌, ◌-ℤ◌, ◌+ℤ◌, pos, length, OnOk, OnErr, IfOk, false, if◌then◌else◌};
+ghost use Rattle.std.specs.Prelude.{◌≡◌, ◌+◌, ◌-◌, ◌^◌, ◌≤◌, ◌≤ℤ◌, ◌<ℤ◌, ◌-ℤ◌, ◌+ℤ◌, pos, length, OnOk, IfOk, false, if◌then◌else◌};
 ghost use Rattle.packet_views.specs.Flags.{has_fin, has_rst};
 ghost use Rattle.reassembly.specs.View.{ForWide, StandsAfterWide};
-ghost use Rattle.flow_socket.specs.Segment.{CanTake, with_segment, placed_at, nothing_placed, is_refused, is_refusal};
+ghost use Rattle.flow_socket.specs.Segment.{CanTake, RisesByBuffer, with_segment, placed_at, nothing_placed, is_refused, is_refusal};
 
 use packet_views::Head;
 use reassembly::{FinNote, Placed, Policy, Stream};
@@ -29,9 +29,7 @@ pub(crate) fn take_segment(
     policy: Policy,
 ) -> Result<Judged, AllocError>
     requires { CanTake stream.old distance payload.now wide }
-    ensures err { OnErr result (stream.new ≡ stream.old) }
-    ensures rbuf { stream.new.rbuf ≡ stream.old.rbuf }
-    ensures rise { OnOk result (stream.new.next ≤ stream.old.next + stream.old.rbuf) }
+    ensures stream { RisesByBuffer stream.old stream.new result }
     ensures stands { OnOk result (StandsAfterWide stream.old wide stream.new
         (with_segment stream.old.rbuf policy has_fin distance payload.now)) }
     ensures placed { IfOk result (λ judged. ForWide stream.old wide
@@ -66,9 +64,7 @@ pub(crate) fn take_unless_reset(
     policy: Policy,
 ) -> Result<Judged, AllocError>
     requires { CanTake stream.old distance payload.now wide }
-    ensures err { OnErr result (stream.new ≡ stream.old) }
-    ensures rbuf { stream.new.rbuf ≡ stream.old.rbuf }
-    ensures rise { OnOk result (stream.new.next ≤ stream.old.next + stream.old.rbuf) }
+    ensures stream { RisesByBuffer stream.old stream.new result }
     ensures stands { OnOk result (StandsAfterWide stream.old wide stream.new
         (λ r. if has_rst h.now then r else with_segment stream.old.rbuf policy (has_fin h.now) distance payload.now r)) }
     ensures placed { IfOk result (λ judged. ForWide stream.old wide (λ r. judged.placed

@@ -200,10 +200,8 @@ impl FlowSocket {
     #[inline(always)]
     fn receive_quiet(&mut self, from: Side, h: &Head, payload: &[u8]) -> Result<Got, AllocError>
         requires quiet { ForEmulation self.old (IsQuiet from h.now) }
-        requires len { h.now.len ≡ length payload.now }
         requires bytes { length payload.now ≤ 65535 }
-        requires client { next_at Side.Client self.old ≤ 2 ^ 62 }
-        requires server { next_at Side.Server self.old ≤ 2 ^ 62 }
+        requires next { next_at from self.old ≤ 2 ^ 62 }
         ensures sent { ComesFrom from self.old self.new result }
         ensures stands { OnOk result (SocketStandsAfter self.old self.new (received from h.now payload.now)) }
         ensures answer { IfOk result (λ got. SocketTells self.old got (got_of from h.now payload.now)) }

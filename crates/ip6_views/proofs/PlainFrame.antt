@@ -7,6 +7,7 @@ use Rattle.packet_views.specs.declared.packet.Class.{Class}
 use Rattle.packet_views.specs.Frame.{field, carries, ip_start, ip_words, tcp_start, total_length, ip_end, ip_version, protocol, fragment_bits}
 use Rattle.packet_views.specs.Packet.{is_ip_header_cut, is_ip_header_bad, is_fragment, is_packet_cut, class_of}
 use Rattle.packet_views.specs.Tcp.{is_tcp_bad}
+use Rattle.ip6_views.specs.Sight.{Tcp, segment_of, sight_of}
 
 pub plain_ipv4 : (frame : List ℕ) → field 12 2 frame ≡ 0x0800 → carries 0x86dd frame ≡ false
 unfolding carries
@@ -59,3 +60,8 @@ plain_class frame header type words tcp whole captured low high =
     let fits : is_tcp_bad (tcp_start frame) (ip_end frame) frame ≡ false =
     ap (λ (k : ℕ). is_tcp_bad k (ip_end frame) frame) at ∙ (ap (λ (k : ℕ). is_tcp_bad 34 k frame) end ∙ plain_tcp frame (14 + field 16 2 frame) low high) in
     rw (carried, held, good, kind, one, uncut, fits) refl
+
+-- what is seen of it
+pub plain_sight : (frame : List ℕ) → carries 0x86dd frame ≡ false → class_of frame ≡ Class.Tcp → sight_of frame ≡ Tcp (segment_of frame)
+unfolding sight_of
+plain_sight frame ipv4 class = rw (ipv4, class) refl

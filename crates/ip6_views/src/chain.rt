@@ -2,7 +2,8 @@
 
 ghost use Rattle.std.specs.Prelude.{◌≡◌, ◌≢◌, ◌+◌, ◌≤◌, ◌<◌, IfOk, IfErr, length, slice_index, Some, None};
 ghost use Rattle.packet_views.specs.declared.packet.Class.{Class};
-ghost use Rattle.ip6_views.specs.Chain.{TcpAt, Only, is_extension, extension_length, splits, blocked, chain};
+ghost use Rattle.ip6_views.specs.Chain.{TcpAt, is_extension, extension_length, splits, blocked, chain};
+ghost use Rattle.ip6_views.specs.Seen.{IsOnly};
 
 use packet_views::{Class, PROTOCOL_TCP, u16_at};
 
@@ -29,25 +30,11 @@ pub(crate) fn tcp_start(frame: &[u8], end: usize, first: u8, start: usize) -> Re
     ensures found { IfOk result (λ at. chain 8 frame.now end first start ≡ TcpAt at) }
     ensures from { IfOk result (λ at. start ≤ at) }
     ensures within { IfOk result (λ at. at ≤ end) }
-    ensures only { IfErr result (λ class. chain 8 frame.now end first start ≡ Only class) }
-    ensures not_tcp { IfErr result (λ class. class ≢ Class.Tcp) }
-{
-    walk(frame, end, MOST, first, start)
-}
-
-// The same where at most `most` extension headers are passed over.
-fn walk(frame: &[u8], end: usize, most: usize, first: u8, start: usize) -> Result<usize, Class>
-    requires start { start ≤ end }
-    requires captured { end ≤ length frame.now }
-    ensures found { IfOk result (λ at. chain most frame.now end first start ≡ TcpAt at) }
-    ensures from { IfOk result (λ at. start ≤ at) }
-    ensures within { IfOk result (λ at. at ≤ end) }
-    ensures only { IfErr result (λ class. chain most frame.now end first start ≡ Only class) }
-    ensures not_tcp { IfErr result (λ class. class ≢ Class.Tcp) }
+    ensures only { IfErr result (IsOnly (chain 8 frame.now end first start)) }
 {
     let mut kind = first;
     let mut at = start;
-    let mut left = most;
+    let mut left = MOST;
     while kind != PROTOCOL_TCP {
         if !is_extension(kind) {
             return Err(Class::Other);

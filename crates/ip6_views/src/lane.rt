@@ -1,10 +1,6 @@
 //! The lane of a captured frame.
 
-ghost use Rattle.std.specs.Prelude.{◌≡◌, ◌<◌, ◌≤◌, IfSome, false};
-ghost use Rattle.packet_views.specs.declared.packet.Class.{Class};
-ghost use Rattle.packet_views.specs.Frame.{carries};
-ghost use Rattle.packet_views.specs.Packet.{class_of, head_of};
-ghost use Rattle.flow_table.specs.Endpoint.{source_of, destination_of};
+ghost use Rattle.std.specs.Prelude.{◌≡◌, ◌<◌, ◌≤◌};
 ghost use Rattle.ip6_views.specs.Sight.{sight_of, lane_of_sight};
 
 use crate::plain::plain_ends;
@@ -15,7 +11,6 @@ use flow_table::lane_between;
 /// The lane of a captured frame among so many lanes, at least one, from 0: that of its key. What has no key goes to lane 0.
 /// Of a plain frame no more is read than its tests and its endpoints.
 #[inline(always)]
-#[tactic(auto, unfolding(crate::specs::Sight::sight_of))]
 pub fn lane_of_frame(bytes: &[u8], lanes: usize) -> usize
     requires some { 1 ≤ lanes }
     ensures lane { result ≡ lane_of_sight (sight_of bytes.now) lanes }

@@ -1,14 +1,12 @@
 //! Plain frames: without a tag, with a whole TCP segment over IPv4 whose header has no options and that is no fragment.
 //! All their fields but the options of TCP and the payload stand at fixed places.
 
-ghost use Rattle.std.specs.Prelude.{◌≡◌, ◌≤◌, IfSome, false, length};
-ghost use Rattle.packet_views.specs.declared.packet.Class.{Class};
-ghost use Rattle.packet_views.specs.Frame.{carries, ip_end, ip_start, tcp_start};
+ghost use Rattle.std.specs.Prelude.{◌≡◌, ◌≤◌, IfSome, length};
+ghost use Rattle.packet_views.specs.Frame.{ip_start, tcp_start, ip_end};
 ghost use Rattle.packet_views.specs.Layout.{IsLayoutOf};
-ghost use Rattle.packet_views.specs.Options.{scale_at};
-ghost use Rattle.packet_views.specs.Packet.{class_of, head_of};
+ghost use Rattle.packet_views.specs.Packet.{head_of};
 ghost use Rattle.flow_table.specs.Endpoint.{source_of, destination_of};
-ghost use Rattle.ip6_views.specs.Sight.{segment_of};
+ghost use Rattle.ip6_views.specs.Sight.{Tcp, segment_of, sight_of};
 ghost use Rattle.ip6_views.specs.Seen.{seen};
 
 use crate::sight::SightTcp;
@@ -38,8 +36,7 @@ const AFTER_FIXED: usize = 54;
 #[tactic(auto, unfolding(packet_views::specs::Packet::head_of))]
 pub(crate) fn plain_segment(frame: &[u8]) -> Option<SightTcp<'_>>
     ensures segment { IfSome result (λ s. seen s ≡ segment_of frame.now) }
-    ensures class { IfSome result (λ _. class_of frame.now ≡ Class.Tcp) }
-    ensures ipv4 { IfSome result (λ _. carries 0x86dd frame.now ≡ false) }
+    ensures sight { IfSome result (λ _. sight_of frame.now ≡ Tcp (segment_of frame.now)) }
 {
     let layout = plain_layout(frame)?;
     let head = layout.head(
@@ -52,7 +49,7 @@ pub(crate) fn plain_segment(frame: &[u8]) -> Option<SightTcp<'_>>
         head,
         from: Endpoint::source_of(&head),
         to: Endpoint::destination_of(&head),
-        scale: plain_scale(frame, layout),
+        scale: layout.scale(frame),
         payload: layout.payload(frame),
     })
 }
@@ -70,8 +67,7 @@ pub(crate) struct Ends {
 pub(crate) fn plain_ends(frame: &[u8]) -> Option<Ends>
     ensures from { IfSome result (λ ends. ends.from ≡ source_of (head_of frame.now)) }
     ensures to { IfSome result (λ ends. ends.to ≡ destination_of (head_of frame.now)) }
-    ensures class { IfSome result (λ _. class_of frame.now ≡ Class.Tcp) }
-    ensures ipv4 { IfSome result (λ _. carries 0x86dd frame.now ≡ false) }
+    ensures sight { IfSome result (λ _. sight_of frame.now ≡ Tcp (segment_of frame.now)) }
 {
     plain_layout(frame)?;
     Some(Ends {
@@ -86,20 +82,6 @@ pub(crate) fn plain_ends(frame: &[u8]) -> Option<Ends>
     })
 }
 
-// The window scale of a frame with a layout: without options there is none.
-#[inline(always)]
-fn plain_scale(frame: &[u8], layout: Layout) -> Option<u8>
-    requires layout { IsLayoutOf frame.now layout }
-    ensures shift { result ≡ scale_at layout.tcp frame.now }
-    ensures bound { IfSome result (λ shift. shift ≤ 14) }
-{
-    if layout.payload == layout.tcp + 20 {
-        None
-    } else {
-        layout.scale(frame)
-    }
-}
-
 // The layout of a plain frame.
 #[inline(always)]
 fn plain_layout(frame: &[u8]) -> Option<Layout>
@@ -109,8 +91,7 @@ fn plain_layout(frame: &[u8]) -> Option<Layout>
     ensures place { IfSome result (λ _. tcp_start frame.now ≡ 34) }
     ensures room { IfSome result (λ _. 54 ≤ length frame.now) }
     ensures end { IfSome result (λ layout. layout.end ≡ ip_end frame.now) }
-    ensures class { IfSome result (λ _. class_of frame.now ≡ Class.Tcp) }
-    ensures ipv4 { IfSome result (λ _. carries 0x86dd frame.now ≡ false) }
+    ensures sight { IfSome result (λ _. sight_of frame.now ≡ Tcp (segment_of frame.now)) }
 {
     if frame.len() < AFTER_FIXED
         || u16_at(frame, 12) != TYPE_IPV4

@@ -1,12 +1,12 @@
 //! What is seen of a frame, by its first bytes alone.
 
-ghost use Rattle.std.specs.Prelude.{◌≡◌, ◌≢◌, ◌≤◌};
+ghost use Rattle.std.specs.Prelude.{◌≡◌, ◌≢◌};
 ghost use Rattle.packet_views.specs.declared.packet.Class.{Class};
 ghost use Rattle.packet_views.specs.Packet.{class_of};
-ghost use Rattle.packet_views.specs.Frame.{ip_start};
+ghost use Rattle.packet_views.specs.Layout.{IsIpStart};
 ghost use Rattle.ip6_views.specs.Packet.{found6_in};
 ghost use Rattle.ip6_views.specs.Sight.{sight4_with, sight6_with, sight_of};
-ghost use Rattle.ip6_views.specs.Seen.{shown, IfOther};
+ghost use Rattle.ip6_views.specs.Seen.{shown, IfOther, Shows};
 
 use crate::header::layout_of;
 use crate::plain::plain_segment;
@@ -36,8 +36,7 @@ pub fn sight_of(bytes: &[u8]) -> Sight<'_>
 #[inline(never)]
 #[tactic(auto, unfolding(crate::specs::Sight::sight_of))]
 pub(crate) fn sight_of_any(bytes: &[u8]) -> Sight<'_>
-    ensures sight { shown result ≡ sight_of bytes.now }
-    ensures not_tcp { IfOther result (λ class. class ≢ Class.Tcp) }
+    ensures { Shows (sight_of bytes.now) result }
 {
     match packet_start(bytes, TYPE_IPV6) {
         Some(ip) => sight6(bytes, ip),
@@ -47,8 +46,7 @@ pub(crate) fn sight_of_any(bytes: &[u8]) -> Sight<'_>
 
 // What is seen of a frame that goes by the rules of IPv4.
 fn sight4(frame: &[u8]) -> Sight<'_>
-    ensures sight { shown result ≡ sight4_with (class_of frame.now) frame.now }
-    ensures not_tcp { IfOther result (λ class. class ≢ Class.Tcp) }
+    ensures { Shows (sight4_with (class_of frame.now) frame.now) result }
 {
     match view_of(frame) {
         View::Tcp(view) => Sight::Tcp(segment4(&view)),
@@ -59,10 +57,8 @@ fn sight4(frame: &[u8]) -> Sight<'_>
 // What is seen of a frame whose IPv6 header begins at `ip`.
 #[inline(never)]
 fn sight6(frame: &[u8], ip: usize) -> Sight<'_>
-    requires start { ip ≡ ip_start frame.now }
-    requires within { ip ≤ 18 }
-    ensures sight { shown result ≡ sight6_with (found6_in frame.now) frame.now }
-    ensures not_tcp { IfOther result (λ class. class ≢ Class.Tcp) }
+    requires { IsIpStart frame.now ip }
+    ensures { Shows (sight6_with (found6_in frame.now) frame.now) result }
 {
     match layout_of(frame, ip) {
         Ok(layout) => Sight::Tcp(segment6(frame, layout)),

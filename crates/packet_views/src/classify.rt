@@ -4,8 +4,8 @@ ghost use Rattle.std.specs.Prelude.{◌≡◌, ◌≢◌, ◌+◌, ◌*◌, ◌^
 ghost use Rattle.packet_views.specs.Frame.{field, carries, ip_start, ip_words, total_length, tcp_start, ip_end};
 ghost use Rattle.packet_views.specs.Tcp.{is_tcp_bad};
 ghost use Rattle.packet_views.specs.Packet.{is_ip_header_bad, is_fragment, class_of, head_of, payload_of, packet_of, Segment, NoSegment};
-ghost use Rattle.packet_views.specs.Layout.{IsLayoutOf};
-ghost use Rattle.packet_views.specs.View.{IfTcp, IfOther};
+ghost use Rattle.packet_views.specs.Layout.{IsIpStart, IsTcpLayout};
+ghost use Rattle.packet_views.specs.View.{IfTcp, IfOther, IsNoSegment};
 
 use crate::fields::u16_at;
 use crate::layout::Layout;
@@ -31,8 +31,7 @@ const FRAGMENT_BITS: u16 = 0x3fff;
 pub fn view_of(frame: &[u8]) -> View<'_>
     ensures frame { IfTcp result (λ segment. segment ≡ frame.now) }
     ensures tcp { IfTcp result (λ _. class_of frame.now ≡ Class.Tcp) }
-    ensures other { IfOther result (λ class. class ≡ class_of frame.now) }
-    ensures not_tcp { IfOther result (λ class. class ≢ Class.Tcp) }
+    ensures other { IfOther result (IsNoSegment frame.now) }
     ensures segment { IfTcp result (λ _. packet_of frame.now ≡ Segment (head_of frame.now) (payload_of frame.now)) }
     ensures no_segment { IfOther result (λ class. packet_of frame.now ≡ NoSegment class) }
 {
@@ -45,12 +44,8 @@ pub fn view_of(frame: &[u8]) -> View<'_>
 // The layout of a TCP segment, or the class of what is none.
 #[tactic(auto, unfolding(crate::specs::Packet::class_of))]
 fn layout_of(frame: &[u8]) -> Result<Layout, Class>
-    ensures layout { IfOk result (λ layout. IsLayoutOf frame.now layout) }
-    ensures start { IfOk result (λ layout. layout.tcp ≡ tcp_start frame.now) }
-    ensures end { IfOk result (λ layout. layout.end ≡ ip_end frame.now) }
-    ensures tcp { IfOk result (λ _. class_of frame.now ≡ Class.Tcp) }
-    ensures other { IfErr result (λ class. class ≡ class_of frame.now) }
-    ensures not_tcp { IfErr result (λ class. class ≢ Class.Tcp) }
+    ensures layout { IfOk result (IsTcpLayout frame.now) }
+    ensures other { IfErr result (IsNoSegment frame.now) }
 {
     let ip = packet_start(frame, TYPE_IPV4).ok_or(Class::Other)?;
     let segment = segment_of(frame, ip)?;
@@ -60,8 +55,7 @@ fn layout_of(frame: &[u8]) -> Result<Layout, Class>
 // The bytes of the TCP segment in the IPv4 packet that begins at `ip`, or the class of what is none.
 #[tactic(auto, unfolding(crate::specs::Packet::class_of))]
 fn segment_of(frame: &[u8], ip: usize) -> Result<Range<usize>, Class>
-    requires start { ip ≡ ip_start frame.now }
-    requires within { ip ≤ 18 }
+    requires start { IsIpStart frame.now ip }
     requires carried { carries 0x0800 frame.now ≡ true }
     ensures start { IfOk result (λ segment. segment.start ≡ tcp_start frame.now) }
     ensures end { IfOk result (λ segment. segment.end ≡ ip_end frame.now) }
@@ -71,8 +65,7 @@ fn segment_of(frame: &[u8], ip: usize) -> Result<Range<usize>, Class>
     ensures room { IfOk result (λ segment. segment.start ≤ segment.end) }
     ensures captured { IfOk result (λ segment. segment.end ≤ length frame.now) }
     ensures packet { IfOk result (λ segment. segment.end < ip + 2 ^ 16) }
-    ensures other { IfErr result (λ class. class ≡ class_of frame.now) }
-    ensures not_tcp { IfErr result (λ class. class ≢ Class.Tcp) }
+    ensures other { IfErr result (IsNoSegment frame.now) }
 {
     if frame.len() < ip + 20 {
         return Err(Class::Cut);
@@ -97,8 +90,7 @@ fn segment_of(frame: &[u8], ip: usize) -> Result<Range<usize>, Class>
 // Whether the fields of the IPv4 header contradict each other.
 #[tactic(auto, unfolding(crate::specs::Packet::is_ip_header_bad))]
 fn is_ip_header_bad(frame: &[u8], ip: usize) -> bool
-    requires start { ip ≡ ip_start frame.now }
-    requires within { ip ≤ 18 }
+    requires start { IsIpStart frame.now ip }
     requires captured { ip + 20 ≤ length frame.now }
     ensures bad { result ≡ is_ip_header_bad frame.now }
     ensures header { result ≡ false → 5 ≤ ip_words frame.now }
@@ -112,8 +104,7 @@ fn is_ip_header_bad(frame: &[u8], ip: usize) -> bool
 // Whether the IPv4 packet is one of several fragments.
 #[tactic(auto, unfolding(crate::specs::Packet::is_fragment))]
 fn is_fragment(frame: &[u8], ip: usize) -> bool
-    requires start { ip ≡ ip_start frame.now }
-    requires within { ip ≤ 18 }
+    requires start { IsIpStart frame.now ip }
     requires captured { ip + 20 ≤ length frame.now }
     ensures { result ≡ is_fragment frame.now }
 {

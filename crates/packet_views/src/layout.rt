@@ -5,6 +5,7 @@ ghost use Rattle.packet_views.specs.Frame.{field, ip_start};
 ghost use Rattle.packet_views.specs.Layout.{IsLayoutOf};
 ghost use Rattle.packet_views.specs.Options.{scale_at};
 ghost use Rattle.packet_views.specs.Tcp.{head_at, is_tcp_bad, payload_at};
+ghost use Rattle.packet_views.specs.View.{IsScale};
 
 use crate::fields::{u16_at, u32_at};
 use crate::options::scale_in;
@@ -92,12 +93,15 @@ impl Layout {
         &frame[self.payload..self.end]
     }
 
-    /// The shift of the first window scale option, at most 14.
+    /// The shift of the first window scale option, at most 14. Without options there is none.
+    #[inline(always)]
     pub fn scale(self, frame: &[u8]) -> Option<u8>
         requires layout { IsLayoutOf frame.now self }
-        ensures shift { result ≡ scale_at self.tcp frame.now }
-        ensures bound { IfSome result (λ shift. shift ≤ 14) }
+        ensures shift { IsScale (scale_at self.tcp frame.now) result }
     {
+        if self.payload == self.tcp + 20 {
+            return None;
+        }
         scale_in(&frame[self.tcp + 20..self.payload])
     }
 }

@@ -21,6 +21,5 @@ pub use classify::{PROTOCOL_TCP, view_of};
 pub use fields::{u16_at, u32_at};
 pub use layout::Layout;
 pub use link::packet_start;
-pub use options::window_scale;
 pub use packet::{ACK, Class, FIN, Head, RST, SYN};
-pub use view::{TcpView, View};
+pub use view::{TcpView, View, window_scale};

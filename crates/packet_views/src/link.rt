@@ -1,7 +1,8 @@
 //! The link header of a captured Ethernet frame: what it carries, and where that begins.
 
-ghost use Rattle.std.specs.Prelude.{◌≡◌, ◌≤◌, IfSome, IsNone, length, true, false};
-ghost use Rattle.packet_views.specs.Frame.{ip_start, carries};
+ghost use Rattle.std.specs.Prelude.{◌≡◌, IfSome, IsNone, true, false};
+ghost use Rattle.packet_views.specs.Frame.{carries};
+ghost use Rattle.packet_views.specs.Layout.{IsIpStart};
 
 use crate::fields::u16_at;
 
@@ -13,8 +14,7 @@ const TYPE_TAGGED: u16 = 0x8100;
 #[inline(always)]
 #[tactic(auto, unfolding(crate::specs::Frame::carries))]
 pub fn packet_start(frame: &[u8], ether_type: u16) -> Option<usize>
-    ensures start { IfSome result (λ start. start ≡ ip_start frame.now) }
-    ensures within { IfSome result (λ start. start ≤ 18) }
+    ensures start { IfSome result (IsIpStart frame.now) }
     ensures carried { IfSome result (λ _. carries ether_type frame.now ≡ true) }
     ensures lacking { IsNone result → carries ether_type frame.now ≡ false }
 {

@@ -1,10 +1,8 @@
 //! The window scale among the options of a TCP header.
 
 ghost use Rattle.std.specs.Prelude.{◌≡◌, ◌+◌, ◌<◌, ◌≤◌, length, drop, true, false, IsNone, IfSome};
-ghost use Rattle.packet_views.specs.Frame.{tcp_start};
-ghost use Rattle.packet_views.specs.Options.{option_length, has_bad_length, scale_after, scale_at};
-
-use crate::view::TcpView;
+ghost use Rattle.packet_views.specs.Options.{option_length, has_bad_length, scale_after};
+ghost use Rattle.packet_views.specs.View.{IsScale};
 
 /// The kind of an option that ends the options (RFC 9293, section 3.1).
 const END_OF_LIST: u8 = 0;
@@ -18,19 +16,10 @@ const WINDOW_SCALE: u8 = 3;
 /// The greatest shift that counts: a greater one is read as this (RFC 7323, section 2.3).
 const MAX_SHIFT: u8 = 14;
 
-/// The shift of the first window scale option of the segment, at most 14.
-pub fn window_scale(segment: &TcpView<'_>) -> Option<u8>
-    ensures shift { result ≡ scale_at (tcp_start segment.now) segment.now }
-    ensures bound { IfSome result (λ shift. shift ≤ 14) }
-{
-    segment.scale()
-}
-
-// The same by the options alone: the bytes between the fixed part of a TCP header and the payload. The walk over them ends
-// at kind 0 and at an option whose length is below 2 or doesn't fit.
+/// The shift of the first window scale option among these: the bytes between the fixed part of a TCP header and the payload.
+/// The walk over them ends at kind 0 and at an option whose length is below 2 or doesn't fit.
 pub(crate) fn scale_in(options: &[u8]) -> Option<u8>
-    ensures shift { result ≡ scale_after 0 options.now }
-    ensures bound { IfSome result (λ shift. shift ≤ 14) }
+    ensures { IsScale (scale_after 0 options.now) result }
 {
     let mut at = 0;
     while at < options.len() {

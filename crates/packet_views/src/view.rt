@@ -1,6 +1,9 @@
 //! The views: a frame seen as a TCP segment, or the class of what it is instead.
 
-ghost use Rattle.std.specs.Prelude.{◌≡◌, ◌≤◌, IfSome, length};
+ghost use Rattle.std.specs.Prelude.{◌≡◌, ◌≤◌, length};
+ghost use Rattle.packet_views.specs.Frame.{tcp_start};
+ghost use Rattle.packet_views.specs.Options.{scale_at};
+ghost use Rattle.packet_views.specs.View.{IsScale};
 
 use crate::fields::u32_at;
 use crate::layout::Layout;
@@ -15,31 +18,22 @@ pub struct TcpView<'a> {
 }
 
 impl<'a> Model for TcpView<'a> {
-    ghost use Rattle.std.specs.Prelude.{◌≡◌, ℕ, List};
-    ghost use Rattle.packet_views.specs.declared.packet.Class.{Class};
-    ghost use Rattle.packet_views.specs.Frame.{ip_end, tcp_start};
-    ghost use Rattle.packet_views.specs.Packet.{class_of};
-    ghost use Rattle.packet_views.specs.Layout.{IsLayoutOf};
+    ghost use Rattle.std.specs.Prelude.{ℕ, List};
+    ghost use Rattle.packet_views.specs.Layout.{IsTcpLayout};
 
     ghost Value = { List ℕ };
 
     ghost view = { λ v. v.frame.now };
 
-    ghost invariant = { λ v. (class_of v.frame.now ≡ Class.Tcp) × (v.layout.tcp ≡ tcp_start v.frame.now)
-        × (v.layout.end ≡ ip_end v.frame.now) × IsLayoutOf v.frame.now v.layout };
+    ghost invariant = { λ v. IsTcpLayout v.frame.now v.layout };
 }
 
 impl<'a> TcpView<'a> {
-    ghost use Rattle.packet_views.specs.Frame.{ip_end, tcp_start};
-    ghost use Rattle.packet_views.specs.Options.{scale_at};
     ghost use Rattle.packet_views.specs.Packet.{class_of, head_of, payload_of};
-    ghost use Rattle.packet_views.specs.Layout.{IsLayoutOf};
+    ghost use Rattle.packet_views.specs.Layout.{IsTcpLayout};
 
     pub(crate) fn new(frame: &'a [u8], layout: Layout) -> TcpView<'a>
-        requires class { class_of frame.now ≡ Class.Tcp }
-        requires tcp { layout.tcp ≡ tcp_start frame.now }
-        requires end { layout.end ≡ ip_end frame.now }
-        requires layout { IsLayoutOf frame.now layout }
+        requires { IsTcpLayout frame.now layout }
         ensures { result ≡ frame.now }
     {
         TcpView { frame, layout }
@@ -71,14 +65,13 @@ impl<'a> TcpView<'a> {
     {
         self.layout.payload(self.frame)
     }
+}
 
-    // The window scale among the TCP options.
-    pub(crate) fn scale(&self) -> Option<u8>
-        ensures shift { result ≡ scale_at (tcp_start self.now) self.now }
-        ensures bound { IfSome result (λ shift. shift ≤ 14) }
-    {
-        self.layout.scale(self.frame)
-    }
+/// The shift of the first window scale option of the segment, at most 14.
+pub fn window_scale(segment: &TcpView<'_>) -> Option<u8>
+    ensures { IsScale (scale_at (tcp_start segment.now) segment.now) result }
+{
+    segment.layout.scale(segment.frame)
 }
 
 /// What a frame is.

@@ -2,14 +2,18 @@
 use Rattle.std.proofs.Common.{◌≡◌, ℕ, ◌+◌, ◌/◌, ◌%◌, ◌^◌, ◌<◌, ◌≤◌, List, [], ◌∷◌, ◌++◌, length, take, drop, set, refl, ap, sym, ◌∙◌, arith, length-append, length-set, append_assoc, codes}
 use Rattle.std.specs.Fmt.{decimal}
 use Rattle.std.proofs.lemmas.Fmt.{decimal_digit, decimal_step, length-decimal-le}
-use Rattle.std.proofs.lemmas.List.{take-append-le, take_at, drop_at, take-set, take-set-le, take-take, drop-set, drop-take, drop-append-le, length-take-le}
+use Rattle.std.proofs.lemmas.List.{take-append-le, take_at, drop_at, take-set, take-set-le, take-take, drop-set, drop-take, drop-append-le, length-take-le, length-drop}
 use Rattle.std.proofs.Math.Seq.{take-add}
 use Rattle.std.proofs.lemmas.Slice.{take-put_mid_below}
 use borrow.Rule.Slice.PartMut.{put_mid, post_of}
+use Rattle.native_filters.specs.declared.facts.Hook.{Hook}
+use Rattle.native_filters.specs.declared.facts.Hook.TheVariants.{Snd, Rcv}
 use Rattle.app_api.specs.declared.entry.Entry.{Entry}
 use Rattle.app_api.specs.declared.entry.Seen.TheVariants.{Nothing}
 use Rattle.report_text.specs.Lines.{callback_line}
-use Rattle.report_text.specs.ShortWords.{AreWords}
+use Rattle.app_api.specs.Names.{IsLabel}
+use Rattle.std.specs.Option.{unwrap_or}
+use Rattle.report_text.specs.ShortWords.{hook_word}
 use Rattle.report_text.specs.Words.{hook_text, event_text, seen_text}
 
 pub width_one : (n : ℕ) → n < 10 → 1 ≡ length (decimal n)
@@ -44,15 +48,47 @@ begins bytes digits rest at a b c is_a is_b is_c within ends stands =
     ap (λ k. drop c (take k three)) count ∙ drop-take c (length (99 ∷ 98 ∷ 32 ∷ digits)) three
     ∙ ap (take (length (99 ∷ 98 ∷ 32 ∷ digits))) whole ∙ take_at (99 ∷ 98 ∷ 32 ∷ digits) rest _ refl
 
--- words copied whole behind the middle
-pub worded : (bytes words : List ℕ) (len : ℕ) → length words ≡ 16 → len ≤ 16 → 24 ≤ length bytes
-    → take (24 + len) (put_mid 24 16 bytes words) ≡ take 24 bytes ++ take len words
-worded bytes words len long few within =
-    let behind : drop 24 (put_mid 24 16 bytes words) ≡ words ++ post_of 24 16 bytes =
-    drop_at (take 24 bytes) (words ++ post_of 24 16 bytes) 24 (length-take-le 24 bytes within) in
-    take-add 24 len (put_mid 24 16 bytes words)
-    ∙ (ap (λ l. l ++ take len (drop 24 (put_mid 24 16 bytes words))) (take-put_mid_below 24 16 bytes words 24 (omega arith) within)
-    ∙ ap (λ l. take 24 bytes ++ l) (ap (take len) behind ∙ take-append-le len words (post_of 24 16 bytes) (omega arith)))
+-- words copied whole to a place
+worded : (bytes words : List ℕ) (at size len : ℕ) → length words ≡ size → len ≤ size → at ≤ length bytes
+    → take (at + len) (put_mid at size bytes words) ≡ take at bytes ++ take len words
+worded bytes words at size len long few within =
+    let behind : drop at (put_mid at size bytes words) ≡ words ++ post_of at size bytes =
+    drop_at (take at bytes) (words ++ post_of at size bytes) at (length-take-le at bytes within) in
+    take-add at len (put_mid at size bytes words)
+    ∙ (ap (λ l. l ++ take len (drop at (put_mid at size bytes words))) (take-put_mid_below at size bytes words at (omega arith) within)
+    ∙ ap (λ l. take at bytes ++ l) (ap (take len) behind ∙ take-append-le len words (post_of at size bytes) (omega (arith, long, few))))
+
+-- the word for a hook behind the middle, and a name with blanks behind it
+pub two_words : (bytes hook name one two : List ℕ) (len end : ℕ) → one ≡ hook ++ codes "   " → two ≡ take 16 name → end ≡ 29 + len
+    → length hook ≡ 5 → 16 ≤ length name → len ≤ 16 → 29 ≤ length (put_mid 24 8 bytes one) → 24 ≤ length bytes
+    → take end (put_mid 29 16 (put_mid 24 8 bytes one) two) ≡ take 24 bytes ++ (hook ++ take len name)
+two_words bytes hook name one two len end is_hook is_name is_end five long few room within =
+    let whole : length one ≡ 8 = ap length is_hook ∙ (length-append hook (codes "   ") ∙ ap (λ n. n + 3) five) in
+    let word : take 5 one ≡ hook = ap (take 5) is_hook ∙ take_at hook (codes "   ") 5 five in
+    let cut : length two ≡ 16 = ap length is_name ∙ length-take-le 16 name long in
+    ap (λ k. take k (put_mid 29 16 (put_mid 24 8 bytes one) two)) is_end
+    ∙ (worded (put_mid 24 8 bytes one) two 29 16 len cut few room
+    ∙ (ap (λ l. l ++ take len two) (worded bytes one 24 8 5 whole (omega arith) within ∙ ap (λ l. take 24 bytes ++ l) word)
+    ∙ (ap (λ l. (take 24 bytes ++ hook) ++ l) (ap (take len) is_name ∙ take-take len 16 name few) ∙ append_assoc (take 24 bytes) hook (take len name))))
+
+pub hook_long : (hook : Hook) → length (hook_word hook) ≡ 5
+hook_long Snd = refl
+hook_long Rcv = refl
+
+-- what is before both stays
+pub two_before : (bytes one two : List ℕ) → 24 ≤ length bytes → 29 ≤ length (put_mid 24 8 bytes one)
+    → take 24 (put_mid 29 16 (put_mid 24 8 bytes one) two) ≡ take 24 bytes
+two_before bytes one two within room =
+    take-put_mid_below 29 16 (put_mid 24 8 bytes one) two 24 (omega arith) room ∙ take-put_mid_below 24 8 bytes one 24 (omega arith) within
+
+-- the name of an event and a blank, of its label
+pub named : (bytes : List ℕ) (count event : ℕ) → IsLabel bytes count event → take (count + 1) bytes ≡ event_text event ++ codes " "
+unfolding event_text
+named bytes count event is =
+    take-add count 1 bytes ∙ (ap (λ l. take count bytes ++ take 1 l) is.blanks ∙ ap (λ name. unwrap_or name (decimal event) ++ codes " ") (sym is.name))
+
+pub label_long : (bytes : List ℕ) (count event : ℕ) → IsLabel bytes count event → 16 ≤ length bytes
+label_long bytes count event is = omega (arith, length-drop count bytes, ap length is.blanks)
 
 -- a number's digits and one byte behind so many others
 pub ended : (bytes new digits rest : List ℕ) (at end last : ℕ) → at + length digits ≡ end → end < length new
@@ -80,19 +116,20 @@ kept_before bytes new at end last far later before =
     take-set-le 24 new end last (omega arith) ∙ (sym (take-take 24 at new far) ∙ (ap (take 24) before ∙ take-take 24 at bytes far))
 
 regroup : (d h e r end : List ℕ)
-    → (99 ∷ 98 ∷ 32 ∷ d) ++ ((32 ∷ (h ++ (32 ∷ (e ++ 32 ∷ [])))) ++ (r ++ end))
+    → (99 ∷ 98 ∷ 32 ∷ d) ++ (((32 ∷ (h ++ 32 ∷ [])) ++ (e ++ 32 ∷ [])) ++ (r ++ end))
     ≡ 99 ∷ 98 ∷ 32 ∷ (d ++ (32 ∷ (h ++ (32 ∷ (e ++ (32 ∷ (r ++ end)))))))
 regroup d h e r end =
     ap (λ l. 99 ∷ 98 ∷ 32 ∷ (d ++ (32 ∷ l)))
-    (append_assoc h (32 ∷ (e ++ 32 ∷ [])) (r ++ end) ∙ ap (λ l. h ++ (32 ∷ l)) (append_assoc e (32 ∷ []) (r ++ end)))
+    (append_assoc (h ++ 32 ∷ []) (e ++ 32 ∷ []) (r ++ end)
+    ∙ (append_assoc h (32 ∷ []) ((e ++ 32 ∷ []) ++ (r ++ end)) ∙ ap (λ l. h ++ (32 ∷ l)) (append_assoc e (32 ∷ []) (r ++ end))))
 
--- a line of its three parts is that of a callback which saw nothing
-pub whole_line : (e : Entry) (words : List ℕ) (len : ℕ) (line : List ℕ) → AreWords words len (hook_text e.hook) e.event → e.seen ≡ Nothing
-    → line ≡ (codes "cb " ++ decimal e.index) ++ (take len words ++ (decimal e.reg ++ codes "\n")) → line ≡ callback_line e
+-- a line of its parts is that of a callback which saw nothing
+pub whole_line : (e : Entry) (name : List ℕ) (count : ℕ) (line : List ℕ) → IsLabel name count e.event → e.seen ≡ Nothing
+    → line ≡ (codes "cb " ++ decimal e.index) ++ ((hook_word e.hook ++ take (count + 1) name) ++ (decimal e.reg ++ codes "\n")) → line ≡ callback_line e
 unfolding callback_line
-whole_line e words len line are nothing is =
+whole_line e name count line label nothing is =
     is
-    ∙ (ap (λ w. (codes "cb " ++ decimal e.index) ++ (w ++ (decimal e.reg ++ codes "\n"))) are.text
+    ∙ (ap (λ n. (codes "cb " ++ decimal e.index) ++ ((hook_word e.hook ++ n) ++ (decimal e.reg ++ codes "\n"))) (named name count e.event label)
     ∙ (regroup (decimal e.index) (hook_text e.hook) (event_text e.event) (decimal e.reg) (codes "\n")
     ∙ ap (λ s. codes "cb " ++ (decimal e.index ++ (codes " " ++ (hook_text e.hook ++ (codes " " ++ (event_text e.event
     ++ (codes " " ++ (decimal e.reg ++ (seen_text s ++ codes "\n"))))))))) (sym nothing)))

@@ -1,13 +1,12 @@
 //! The line of a callback that saw nothing, in an array of its own. Most lines of a report are such lines, several of one packet
 //! in a row: so how a line begins is kept while the packet stays the same, and the words behind it are copied whole.
 
-ghost use Rattle.std.specs.Prelude.{◌≡◌, ◌+◌, ◌≤◌, ◌++◌, true, false, length, take, drop, codes, IfSome};
+ghost use Rattle.std.specs.Prelude.{◌≡◌, ◌+◌, ◌≤◌, ◌++◌, true, false, length, take, drop, codes};
 ghost use Rattle.std.specs.Fmt.{decimal};
 ghost use Rattle.callback_log.specs.Walk.{seen_lent};
-ghost use Rattle.report_text.specs.Words.{hook_text};
-ghost use Rattle.report_text.specs.ShortWords.{AreWords};
+ghost use Rattle.report_text.specs.ShortWords.{hook_word};
 
-use app_api::{END, ERROR, NEW_DATA, ORPHAN, PKT_IN, REXMIT, START, STATE, Seen, TIMER};
+use app_api::{Seen, event_label};
 use callback_log::Callback;
 use itoa::write_digits;
 use native_filters::Hook;
@@ -15,52 +14,17 @@ use native_filters::Hook;
 // Where what follows the packet's place begins: before it is room for `cb ` and twenty digits.
 const MIDDLE: usize = 24;
 
-// The words for an event at the sender: sixteen bytes, and how many of them count.
-#[tactic(auto, unfolding(crate::specs::Words::event_text))]
-fn sent_words(event: u16) -> Option<(&'static [u8; 16], usize)>
-    ensures { IfSome result (λ words. AreWords words.0.now words.1 (codes "snd") event) }
-{
-    match event {
-        START => Some((b" snd start      ", 11)),
-        PKT_IN => Some((b" snd pkt_in     ", 12)),
-        REXMIT => Some((b" snd rexmit     ", 12)),
-        NEW_DATA => Some((b" snd new_data   ", 14)),
-        ERROR => Some((b" snd error      ", 11)),
-        STATE => Some((b" snd state      ", 11)),
-        END => Some((b" snd end        ", 9)),
-        ORPHAN => Some((b" snd orphan     ", 12)),
-        TIMER => Some((b" snd timer      ", 11)),
-        _ => None,
-    }
-}
+// Where the event's name begins.
+const NAME: usize = MIDDLE + 5;
 
-// The same at the receiver.
-#[tactic(auto, unfolding(crate::specs::Words::event_text))]
-fn received_words(event: u16) -> Option<(&'static [u8; 16], usize)>
-    ensures { IfSome result (λ words. AreWords words.0.now words.1 (codes "rcv") event) }
-{
-    match event {
-        START => Some((b" rcv start      ", 11)),
-        PKT_IN => Some((b" rcv pkt_in     ", 12)),
-        REXMIT => Some((b" rcv rexmit     ", 12)),
-        NEW_DATA => Some((b" rcv new_data   ", 14)),
-        ERROR => Some((b" rcv error      ", 11)),
-        STATE => Some((b" rcv state      ", 11)),
-        END => Some((b" rcv end        ", 9)),
-        ORPHAN => Some((b" rcv orphan     ", 12)),
-        TIMER => Some((b" rcv timer      ", 11)),
-        _ => None,
-    }
-}
-
-// The words for a hook and an event that has a name.
+// The word for a hook, between blanks. With three more blanks it is copied whole.
 #[inline(always)]
-fn words_of(hook: Hook, event: u16) -> Option<(&'static [u8; 16], usize)>
-    ensures { IfSome result (λ words. AreWords words.0.now words.1 (hook_text hook) event) }
+fn hook_word(hook: Hook) -> &'static [u8; 8]
+    ensures { result.now ≡ hook_word hook ++ codes "   " }
 {
     match hook {
-        Hook::Snd => sent_words(event),
-        Hook::Rcv => received_words(event),
+        Hook::Snd => b" snd    ",
+        Hook::Rcv => b" rcv    ",
     }
 }
 
@@ -103,14 +67,18 @@ fn put_beginning(bytes: &mut [u8; 48], index: u64) -> usize
     at - 3
 }
 
-// Puts words behind the middle.
+// Puts the words for a hook and an event's name behind the middle, and answers where they end. The name has blanks behind it.
 #[inline(always)]
-fn put_words(bytes: &mut [u8; 48], words: &[u8; 16], len: usize)
-    requires { len ≤ 16 }
-    ensures words { take (24 + len) bytes.new ≡ take 24 bytes.old ++ take len words.now }
+fn put_words(bytes: &mut [u8; 48], hook: Hook, name: &str, len: usize) -> usize
+    requires few { len ≤ 10 }
+    requires long { 16 ≤ length name.now }
+    ensures words { take result bytes.new ≡ take 24 bytes.old ++ (hook_word hook ++ take (len + 1) name.now) }
     ensures before { take 24 bytes.new ≡ take 24 bytes.old }
+    ensures end { (24 ≤ result) × (result ≤ 40) }
 {
-    bytes[MIDDLE..MIDDLE + 16].copy_from_slice(words);
+    bytes[MIDDLE..MIDDLE + 8].copy_from_slice(hook_word(hook));
+    bytes[NAME..NAME + 16].copy_from_slice(&name.as_bytes()[..16]);
+    NAME + len + 1
 }
 
 // Puts a registration's number and the end of the line behind so many bytes, and answers where the line ends.
@@ -169,13 +137,15 @@ impl ShortLine {
 
     // Puts a whole line.
     #[inline(always)]
-    fn put(&mut self, index: u64, words: &[u8; 16], len: usize, reg: u8)
-        requires { len ≤ 16 }
-        ensures { line_in self.new ≡ (codes "cb " ++ decimal index) ++ (take len words.now ++ (decimal reg ++ codes "\n")) }
+    fn put(&mut self, index: u64, hook: Hook, name: &str, len: usize, reg: u8)
+        requires few { len ≤ 10 }
+        requires long { 16 ≤ length name.now }
+        ensures { line_in self.new ≡ (codes "cb " ++ decimal index)
+            ++ ((hook_word hook ++ take (len + 1) name.now) ++ (decimal reg ++ codes "\n")) }
     {
         self.begin(index);
-        put_words(&mut self.bytes, words, len);
-        self.end = put_ending(&mut self.bytes, MIDDLE + len, reg);
+        let at = put_words(&mut self.bytes, hook, name, len);
+        self.end = put_ending(&mut self.bytes, at, reg);
     }
 
     /// Puts a callback's line, where it saw nothing and its event has a name; else the answer is `false`.
@@ -186,10 +156,10 @@ impl ShortLine {
         if saw_something(callback.seen) {
             return false;
         }
-        let Some(words) = words_of(callback.hook, callback.event) else {
+        let Some((name, len)) = event_label(callback.event) else {
             return false;
         };
-        self.put(callback.index, words.0, words.1, callback.reg);
+        self.put(callback.index, callback.hook, name, len, callback.reg);
         true
     }
 

@@ -43,6 +43,6 @@ returns-clause-stands c d s = record {
       (to_z-of_z {w = w64} (record { sfits = c.distance-distance.type_inv }) ∙ distance_is c d s)
       (c.in_ok-judged.ensures.stands d.receiver (subst (λ k. StandsFor k.stream d.receiver) (sym c.self.view_is) s.stream) (wide_is c d s));
   offer = ap (λ k. k.offer) c.self.view_is ∙ (s.offer ∙ sym (offer_stays c.args.rbuf c.args.policy c.args.h.now c.args.payload.now d));
-  window = c.in_ok-judged.ensures.rbuf ∙ rbuf_is c d s;
+  window = c.in_ok-judged.ensures.stream.rbuf ∙ rbuf_is c d s;
   mark = ap (λ k. k.mark) c.self.view_is ∙ s.mark;
 }
