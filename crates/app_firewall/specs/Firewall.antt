@@ -1,5 +1,5 @@
 -- The firewall: which presets it has, what a call changes and asks, and how its fields are named.
-use Rattle.std.specs.Prelude.{◌≡◌, ℕ, ◌+◌, ◌%◌, ◌^◌, ◌&&◌, ◌==◌, not, Bool, true, if◌then◌else◌, List, [], ◌∷◌, Some, None, IsTrue, refl, codes}
+use Rattle.std.specs.Prelude.{◌≡◌, ℕ, ◌+◌, ◌%◌, ◌^◌, ◌&&◌, ◌==◌, not, Bool, if◌then◌else◌, [], ◌∷◌, Some, None, IsTrue, refl, codes}
 use Rattle.std.proofs.Common.{lit≤}
 use Rattle.std.proofs.lemmas.Bool.{false≢true}
 use Rattle.native_filters.specs.declared.facts.Hook.TheVariants.{Snd, Rcv}
@@ -7,16 +7,12 @@ use Rattle.app_api.specs.declared.app.Call.{Call}
 use Rattle.app_api.specs.declared.app.Tally.{Tally}
 use Rattle.app_api.specs.declared.reaction.Reaction.{Reaction}
 use Rattle.app_api.specs.declared.reaction.Reason.TheVariants as reason
-use Rattle.app_api.specs.declared.registration.Reg.{Reg}
 use Rattle.app_api.specs.App.{Meaning, IsLawful, RestsAtReceiver}
-use Rattle.app_api.specs.Events.{PKT_IN, ORPHAN, is_snd, is_rcv, allows_hook}
+use Rattle.app_api.specs.Events.{is_snd, is_rcv, allows_hook}
+use Rattle.app_api.specs.Log.{log}
 use Rattle.app_api.specs.Reaction.{asks_nothing}
-use Rattle.app_api.specs.Reg.{preset_reg}
 use Rattle.app_api.specs.Tally.{zeros}
 use Rattle.app_firewall.specs.Decision.{decision}
-
-abbrev pub firewall_presets : List Reg
-firewall_presets = preset_reg 1 PKT_IN Snd true ∷ preset_reg 2 PKT_IN Rcv true ∷ preset_reg 3 ORPHAN Snd true ∷ []
 
 -- whether a call tells of a packet of a connection, at its sender
 abbrev pub is_packet : Call → Bool
@@ -57,10 +53,10 @@ firewall_asked call decided =
 abbrev pub reaction_to : Tally → Call → Bool × ℕ → Tally × Reaction
 reaction_to t call decided = (judged t call decided, firewall_asked call decided)
 
--- the firewall as an application
+-- the firewall as an application: it sees what the log application sees
 unfoldable pub firewall : Meaning
 firewall = record {
-  presets = firewall_presets;
+  presets = log.presets;
   fresh = zeros;
   react = λ t call rules. reaction_to t call (decision rules call.facts);
   fields = λ t. (codes "passed", t.t0) ∷ (codes "dropped", t.t1) ∷ (codes "rule", t.t2) ∷ [];
@@ -74,7 +70,7 @@ asked-no_drop call decided rcv =
     ] rcv
 
 pub firewall-lawful : IsLawful firewall
-unfolding firewall allows_hook
+unfolding firewall log allows_hook
 firewall-lawful = record {
   presets = refl;
   by_number = refl;

@@ -6,15 +6,15 @@ ghost use Rattle.app_api.specs.Events.{is_snd};
 ghost use Rattle.app_firewall.specs.Firewall.{firewall, firewall-lawful, firewall-rests, drops_by};
 
 use crate::decision::decide;
-use app_api::{App, Call, Changes, ORPHAN, PKT_IN, Reaction, Reason, Reg, Rule, Tally};
+use app_api::{App, Call, Changes, LogApp, Reaction, Reason, Reg, Rule, Tally};
 use native_filters::Hook;
 
 /// The class of an orphan that isn't TCP over IPv4 at all, as ARP.
 const OTHER: u64 = 1;
 
-/// Drops each packet of a connection that its rules don't allow, and each orphan but those of class other. It
-/// counts the packets of a connection that passed and those that it dropped, and keeps the number of the rule that
-/// decided last, 0 where none matched.
+/// Sees what the log application sees. It drops each packet of a connection that its rules don't allow, and each orphan but
+/// those of class other. It counts the packets of a connection that passed and those that it dropped, and keeps the number of
+/// the rule that decided last, 0 where none matched.
 #[derive(Clone, Copy, Debug, PartialEq, Eq)]
 pub struct FirewallApp;
 
@@ -25,12 +25,7 @@ impl App for FirewallApp {
     ghost lawful = { λ _. firewall-lawful };
 
     fn preset(&self, number: u8) -> Option<Reg> {
-        match number {
-            1 => Some(Reg::preset(1, PKT_IN, Hook::Snd, true)),
-            2 => Some(Reg::preset(2, PKT_IN, Hook::Rcv, true)),
-            3 => Some(Reg::preset(3, ORPHAN, Hook::Snd, true)),
-            _ => None,
-        }
+        LogApp.preset(number)
     }
 
     fn fresh(&self) -> Tally {

@@ -1,14 +1,13 @@
 //! A piece of the report: some records, and the thread that makes their text.
 
-ghost use Rattle.std.specs.Prelude.{◌≡◌, ◌<◌, List, IfOk, IsErrOf, IsOk, IsTrue};
+ghost use Rattle.std.specs.Prelude.{◌≡◌, ◌<◌, List, IfOk, IsOk, IsTrue};
 ghost use Rattle.std.specs.List.{list_all};
 ghost use Rattle.app_api.specs.App.{Meaning};
-ghost use Rattle.mos_bytes.specs.Causes.{HasCauseOf};
 ghost use Rattle.lane_core.specs.KeptEnd.{shown_as};
 ghost use Rattle.lane_core.specs.declared.under_way.RecordUnderWay.{RecordUnderWay as Kept};
 ghost use Rattle.report_text.specs.Ranges.{record_fits};
 ghost use Rattle.report_text.specs.Report.{records_text};
-ghost use Rattle.report_text.specs.Written.{Adds};
+ghost use Rattle.report_text.specs.Written.{WritesText};
 ghost use Rattle.parallel_report.specs.Texts.{IsMadeOf};
 ghost use Rattle.parallel_report.specs.Pieces.{IsMakerOf, IsPieceOf};
 
@@ -96,10 +95,8 @@ pub(crate) fn write_piece<R: Threads, A: App, O: Sink>(
     piece: Piece<'_, A>,
 ) -> Result<usize, TextError>
     requires piece { IsPieceOf A.App (A.meaning app.now) piece }
-    ensures text { Adds O.Sink out.old out.new result
+    ensures text { WritesText O.Sink out.old out.new result
         (records_text (shown_as (A.meaning app.now) piece.entry.records.now)) }
-    ensures cause { HasCauseOf (O.faults out.old) (O.faults out.new) (IsErrOf result TextError.WriteFault) }
-    ensures lasts { O.lasting out.new ≡ O.lasting out.old }
     ensures some { IfOk result (λ share. 0 < share) }
     ensures fits { IsOk result → IsTrue (list_all record_fits (shown_as (A.meaning app.now) piece.entry.records.now)) }
 {

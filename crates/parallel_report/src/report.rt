@@ -1,12 +1,11 @@
 //! The whole report.
 
-ghost use Rattle.std.specs.Prelude.{◌≡◌, ◌<◌, IsErrOf, IsOk, IsTrue};
+ghost use Rattle.std.specs.Prelude.{◌≡◌, ◌<◌, IsOk, IsTrue};
 ghost use Rattle.std.specs.List.{list_all};
-ghost use Rattle.mos_bytes.specs.Causes.{HasCauseOf};
 ghost use Rattle.lane_core.specs.KeptEnd.{shown_as};
 ghost use Rattle.report_text.specs.Ranges.{HaveTypes, record_fits};
 ghost use Rattle.report_text.specs.Report.{records_text, report_text};
-ghost use Rattle.report_text.specs.Written.{Adds};
+ghost use Rattle.report_text.specs.Written.{WritesText};
 
 use crate::piece::{start_piece, write_piece};
 use app_api::App;
@@ -35,9 +34,7 @@ fn write_pieces<'s, E: 's, R: Threads, A: App + Sync, O: Sink>(
     out: &mut O,
     records: &'s [RecordUnderWay],
 ) -> Result<(), TextError>
-    ensures text { Adds O.Sink out.old out.new result (records_text (shown_as (A.meaning app.now) records.now)) }
-    ensures cause { HasCauseOf (O.faults out.old) (O.faults out.new) (IsErrOf result TextError.WriteFault) }
-    ensures lasts { O.lasting out.new ≡ O.lasting out.old }
+    ensures text { WritesText O.Sink out.old out.new result (records_text (shown_as (A.meaning app.now) records.now)) }
     ensures fits { IsOk result → IsTrue (list_all record_fits (shown_as (A.meaning app.now) records.now)) }
 {
     let most = threads.saturating_add(SPARE);
@@ -68,9 +65,7 @@ fn write_in_scope<'c, R: Threads + Wait, A: App + Sync, O: Sink>(
     out: &'c mut O,
     records: &'c [RecordUnderWay],
 ) -> (Result<(), TextError>, &'c mut O)
-    ensures text { Adds O.Sink out.old result.1.now result.0 (records_text (shown_as (A.meaning app.now) records.now)) }
-    ensures cause { HasCauseOf (O.faults out.old) (O.faults result.1.now) (IsErrOf result.0 TextError.WriteFault) }
-    ensures lasts { O.lasting result.1.now ≡ O.lasting out.old }
+    ensures text { WritesText O.Sink out.old result.1.now result.0 (records_text (shown_as (A.meaning app.now) records.now)) }
     ensures same { result.1.ghost_name ≡ out.entry.ghost_name }
     ensures fits { IsOk result.0 → IsTrue (list_all record_fits (shown_as (A.meaning app.now) records.now)) }
 {
@@ -78,11 +73,8 @@ fn write_in_scope<'c, R: Threads + Wait, A: App + Sync, O: Sink>(
         thread::scope_env(),
         rt,
         move |scope| -> (Result<(), TextError>, &mut O)
-            ensures text { Adds O.Sink out.entry.now result.1.now result.0
+            ensures text { WritesText O.Sink out.entry.now result.1.now result.0
                 (records_text (shown_as (A.meaning app.entry.now) records.entry.now)) }
-            ensures cause { HasCauseOf (O.faults out.entry.now) (O.faults result.1.now)
-                (IsErrOf result.0 TextError.WriteFault) }
-            ensures lasts { O.lasting result.1.now ≡ O.lasting out.entry.now }
             ensures same { result.1.ghost_name ≡ out.entry.ghost_name }
             ensures fits { IsOk result.0
                 → IsTrue (list_all record_fits (shown_as (A.meaning app.entry.now) records.entry.now)) }
@@ -102,9 +94,7 @@ fn write_records<R: Threads + Wait, A: App + Sync, O: Sink>(
     out: &mut O,
     records: &[RecordUnderWay],
 ) -> Result<(), TextError>
-    ensures text { Adds O.Sink out.old out.new result (records_text (shown_as (A.meaning app.now) records.now)) }
-    ensures cause { HasCauseOf (O.faults out.old) (O.faults out.new) (IsErrOf result TextError.WriteFault) }
-    ensures lasts { O.lasting out.new ≡ O.lasting out.old }
+    ensures text { WritesText O.Sink out.old out.new result (records_text (shown_as (A.meaning app.now) records.now)) }
     ensures fits { IsOk result → IsTrue (list_all record_fits (shown_as (A.meaning app.now) records.now)) }
 {
     let (wrote, _out) = write_in_scope(rt, alloc, threads, app, out, records);
@@ -128,10 +118,8 @@ pub fn write_report_by<R: Threads + Wait, A: App + Sync, O: Sink>(
     totals: &Totals,
 ) -> Result<(), TextError>
     requires threads { 0 < threads }
-    ensures text { Adds O.Sink out.old out.new result
+    ensures text { WritesText O.Sink out.old out.new result
         (report_text (shown_as (A.meaning app.now) records.now) totals.now) }
-    ensures cause { HasCauseOf (O.faults out.old) (O.faults out.new) (IsErrOf result TextError.WriteFault) }
-    ensures lasts { O.lasting out.new ≡ O.lasting out.old }
     ensures typed { IsOk result → HaveTypes (shown_as (A.meaning app.now) records.now) totals.now }
 {
     write_records(rt, alloc, threads, app, out, records)?;

@@ -16,3 +16,4 @@ pub mod ReadLaws
 pub mod ShortLines
 pub mod FirstPlace
 pub mod Fitting
+pub mod WritesText

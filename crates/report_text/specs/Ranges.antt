@@ -1,4 +1,4 @@
--- Not of the headline. Which numbers and bytes values of the records' types have. A definition on numbers speaks of records that no value is.
+-- Which numbers and bytes values of the records' types have. A definition on numbers speaks of records that no value is.
 use Rattle.std.specs.Prelude.{ℕ, ◌^◌, ◌&&◌, Bool, true, List, nat_lt, IsTrue}
 use Rattle.std.specs.List.{list_all}
 use Rattle.flow_table.specs.declared.endpoint.Endpoint.{Endpoint}

@@ -1,5 +1,5 @@
 -- Not of the headline. What reading and writing are to each other.
-use Rattle.std.specs.Prelude.{◌≡◌, ℕ, List, length, drop, Option, Some, Result, IfOk, IfErr, IsOk, IsTrue, ⊤}
+use Rattle.std.specs.Prelude.{◌≡◌, ℕ, List, length, drop, Some, Result, IfOk, IfErr, IsOk, IsTrue, ⊤}
 use Rattle.std.specs.List.{list_all}
 use Rattle.mos_bytes.specs.Writes.{WriteAdds}
 use Rattle.report_text.specs.declared.read.ReadBack.{ReadBack}

@@ -1,5 +1,5 @@
 -- Only for proofs. The lines of a report as data, how one is read, and where one may stand.
-use Rattle.std.specs.Prelude.{ℕ, ◌+◌, ◌%◌, ◌^◌, ◌==◌, ◌&&◌, Bool, true, false, if◌then◌else◌, List, [], ◌∷◌, ◌++◌, length, nat_le, slice_index, bytes_eq, Option, Some, None}
+use Rattle.std.specs.Prelude.{ℕ, ◌+◌, ◌%◌, ◌^◌, ◌==◌, ◌&&◌, Bool, true, if◌then◌else◌, List, [], ◌∷◌, ◌++◌, length, nat_le, slice_index, bytes_eq, Option, Some, None}
 use Rattle.std.specs.Option.{option_to_list}
 use Rattle.app_api.specs.App.{is_field_name}
 use Rattle.app_api.specs.declared.entry.Entry.{Entry}

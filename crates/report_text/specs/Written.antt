@@ -1,8 +1,12 @@
--- Not of the headline. What a call writes to a sink.
-use Rattle.std.specs.Prelude.{ℕ, List, Result}
+-- Not of the headline. What a call that writes a text does to a sink.
+use Rattle.std.specs.Prelude.{ℕ, List, Result, IsErrOf}
+use Rattle.mos_bytes.specs.Outside.{Writes}
 use Rattle.mos_bytes.specs.Writes.{WriteAdds}
 use Rattle.mos_bytes.specs.declared.sink.Sink.{Ghosts as Sink}
+use Rattle.report_text.specs.declared.write.TextError.{TextError}
+use Rattle.report_text.specs.declared.write.TextError.TheVariants.{WriteFault}
 
--- a sink has these bytes more: all of them at `Ok`, and a front of them at an error
-abbrev pub Adds : {S T E : Type 0} → Sink S → S → S → Result T E → List ℕ → Type 0
-Adds sink old new result bytes = WriteAdds (sink.taken old) (sink.taken new) result bytes
+-- a call wrote a text to a sink, or at an error a front of it
+pub record WritesText {S T : Type 0} (sink : Sink S) (old new : S) (result : Result T TextError) (text : List ℕ) : Type 0 where
+  pub adds : WriteAdds (sink.taken old) (sink.taken new) result text
+  pub to : Writes sink old new (IsErrOf result WriteFault)

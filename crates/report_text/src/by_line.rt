@@ -1,8 +1,8 @@
 //! A text written line by line, as that of a report is which several threads have made.
 
-ghost use Rattle.std.specs.Prelude.{◌≡◌, ◌<◌, ◌≤◌, length, IfSome};
-ghost use Rattle.mos_bytes.specs.Causes.{HasCause};
-ghost use Rattle.report_text.specs.Written.{Adds};
+ghost use Rattle.std.specs.Prelude.{◌≡◌, ◌<◌, ◌≤◌, length, IfSome, IsErr};
+ghost use Rattle.mos_bytes.specs.Outside.{Writes};
+ghost use Rattle.mos_bytes.specs.Writes.{WriteAdds};
 
 use crate::newline::newline_in;
 use mos_bytes::{Failed, Sink};
@@ -20,9 +20,8 @@ fn first_line_of(text: &[u8]) -> Option<usize>
 
 /// Writes a text, each line by one call, and what stands behind the last one by another. At an `Err` the sink holds a front of it.
 pub fn write_lines<O: Sink>(out: &mut O, text: &[u8]) -> Result<(), Failed>
-    ensures text { Adds O.Sink out.old out.new result text.now }
-    ensures cause { HasCause (O.faults out.old) (O.faults out.new) result }
-    ensures lasts { O.lasting out.new ≡ O.lasting out.old }
+    ensures text { WriteAdds (O.taken out.old) (O.taken out.new) result text.now }
+    ensures to { Writes O.Sink out.old out.new (IsErr result) }
 {
     let mut rest = text;
     while let Some(len) = first_line_of(rest) {

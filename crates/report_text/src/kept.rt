@@ -1,13 +1,12 @@
 //! Writes records as they are kept, without a list of their entries or a text of each field's name.
 
-ghost use Rattle.std.specs.Prelude.{◌≡◌, IsErrOf, IsOk, IsTrue, [], if◌then◌else◌, flat_map};
+ghost use Rattle.std.specs.Prelude.{◌≡◌, IsOk, IsTrue, [], if◌then◌else◌, flat_map};
 ghost use Rattle.std.specs.List.{list_all};
-ghost use Rattle.mos_bytes.specs.Causes.{HasCauseOf};
 ghost use Rattle.report_text.specs.Kept.{is_conn, kept_record};
 ghost use Rattle.report_text.specs.Lines.{field_line, callback_line};
-ghost use Rattle.report_text.specs.Ranges.{drop_fits, entry_fits, field_fits, record_fits};
-ghost use Rattle.report_text.specs.Report.{rest_text, record_text};
-ghost use Rattle.report_text.specs.Written.{Adds};
+ghost use Rattle.report_text.specs.Ranges.{entry_fits, field_fits, record_fits};
+ghost use Rattle.report_text.specs.Report.{record_text};
+ghost use Rattle.report_text.specs.Written.{WritesText};
 
 use crate::backward::BackwardLine;
 use crate::ranges::{callback_fits, drops_fit, field_fits, kind_fits};
@@ -42,9 +41,7 @@ fn write_callbacks<O: Sink>(
     line: &mut String,
     log: &CallbackLog,
 ) -> Result<(), TextError>
-    ensures text { Adds O.Sink out.old out.new result (flat_map callback_line log.now) }
-    ensures cause { HasCauseOf (O.faults out.old) (O.faults out.new) (IsErrOf result TextError.WriteFault) }
-    ensures lasts { O.lasting out.new ≡ O.lasting out.old }
+    ensures text { WritesText O.Sink out.old out.new result (flat_map callback_line log.now) }
     ensures fits { IsOk result → IsTrue (list_all entry_fits log.now) }
 {
     let mut short = ShortLine::new();
@@ -64,9 +61,7 @@ fn write_told<A: App, O: Sink>(
     row: &mut BackwardLine,
     tally: &Tally,
 ) -> Result<(), TextError>
-    ensures text { Adds O.Sink out.old out.new result (flat_map field_line ((A.meaning app.now).fields tally.now)) }
-    ensures cause { HasCauseOf (O.faults out.old) (O.faults out.new) (IsErrOf result TextError.WriteFault) }
-    ensures lasts { O.lasting out.new ≡ O.lasting out.old }
+    ensures text { WritesText O.Sink out.old out.new result (flat_map field_line ((A.meaning app.now).fields tally.now)) }
     ensures fits { IsOk result → IsTrue (list_all field_fits ((A.meaning app.now).fields tally.now)) }
 {
     for place in 0..256u16 {
@@ -87,38 +82,14 @@ fn write_fields<A: App, O: Sink>(
     row: &mut BackwardLine,
     of: &KeptRecord<'_>,
 ) -> Result<(), TextError>
-    ensures text { Adds O.Sink out.old out.new result
+    ensures text { WritesText O.Sink out.old out.new result
         (flat_map field_line (kept_record (A.meaning app.now) of.now).fields) }
-    ensures cause { HasCauseOf (O.faults out.old) (O.faults out.new) (IsErrOf result TextError.WriteFault) }
-    ensures lasts { O.lasting out.new ≡ O.lasting out.old }
     ensures fits { IsOk result → IsTrue (list_all field_fits (kept_record (A.meaning app.now) of.now).fields) }
 {
     match of.kind {
         RecordKind::Conn { .. } => write_told(app, out, line, row, of.tally),
         RecordKind::Orphan { .. } => Ok(()),
     }
-}
-
-// The lines that follow a record's first line.
-fn write_rest<A: App, O: Sink>(
-    alloc: Global,
-    app: &A,
-    out: &mut O,
-    line: &mut String,
-    row: &mut BackwardLine,
-    of: &KeptRecord<'_>,
-) -> Result<(), TextError>
-    ensures text { Adds O.Sink out.old out.new result (rest_text (kept_record (A.meaning app.now) of.now)) }
-    ensures cause { HasCauseOf (O.faults out.old) (O.faults out.new) (IsErrOf result TextError.WriteFault) }
-    ensures lasts { O.lasting out.new ≡ O.lasting out.old }
-    ensures entries_fit { IsOk result → IsTrue (list_all entry_fits (kept_record (A.meaning app.now) of.now).entries) }
-    ensures drops_fit { IsOk result → IsTrue (list_all drop_fits (kept_record (A.meaning app.now) of.now).drops) }
-    ensures fields_fit { IsOk result → IsTrue (list_all field_fits (kept_record (A.meaning app.now) of.now).fields) }
-{
-    write_callbacks(alloc, out, line, of.callbacks)?;
-    write_drops(out, row, of.drops.as_slice())?;
-    drops_fit(of.drops.as_slice());
-    write_fields(app, out, line, row, of)
 }
 
 /// Writes the lines of a record as it is kept, each by one call: those that `write_report` writes of the record for which it
@@ -131,13 +102,14 @@ pub fn write_kept<A: App, O: Sink>(
     line: &mut String,
     of: &KeptRecord<'_>,
 ) -> Result<(), TextError>
-    ensures text { Adds O.Sink out.old out.new result (record_text (kept_record (A.meaning app.now) of.now)) }
-    ensures cause { HasCauseOf (O.faults out.old) (O.faults out.new) (IsErrOf result TextError.WriteFault) }
-    ensures lasts { O.lasting out.new ≡ O.lasting out.old }
+    ensures text { WritesText O.Sink out.old out.new result (record_text (kept_record (A.meaning app.now) of.now)) }
     ensures fits { IsOk result → IsTrue (record_fits (kept_record (A.meaning app.now) of.now)) }
 {
     let mut row = BackwardLine::new();
     write_head(out, &mut row, of.name, &of.kind, of.version)?;
     kind_fits(&of.kind);
-    write_rest(alloc, app, out, line, &mut row, of)
+    write_callbacks(alloc, out, line, of.callbacks)?;
+    write_drops(out, &mut row, of.drops.as_slice())?;
+    drops_fit(of.drops.as_slice());
+    write_fields(app, out, line, &mut row, of)
 }

@@ -8,8 +8,7 @@ ghost use Rattle.app_api.specs.App.{is_field_name};
 
 use crate::record::{Record, RecordKind, Totals};
 use crate::words::{
-    class_name, hook_word, push_endpoint, push_event, push_labelled, push_name, push_reason,
-    push_seen,
+    class_name, hook_word, push_endpoint, push_event, push_labelled, push_reason, push_seen,
 };
 use app_api::{Entry, Reason, Seen};
 use callback_log::Callback;
@@ -112,7 +111,9 @@ pub(crate) fn push_field(line: &mut String, name: &[u8], value: u64) -> Result<(
     ensures { OnOk result (string_bytes line.new ≡ string_bytes line.old ++ field_line (name.now, value)) }
 {
     line.push_str("field ")?;
-    push_name(line, name)?;
+    for byte in name {
+        line.push(char::from(*byte))?;
+    }
     push_value(line, value)
 }
 

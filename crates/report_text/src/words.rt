@@ -1,10 +1,9 @@
 //! The parts of a line: names of classes, hooks and events, endpoints, and what a callback saw.
 
-ghost use Rattle.std.specs.Prelude.{◌≡◌, ◌<◌, ◌++◌, [], ◌∷◌, false, codes, IsTrue, OnOk, string_bytes, flat_map};
+ghost use Rattle.std.specs.Prelude.{◌≡◌, ◌<◌, ◌++◌, [], ◌∷◌, false, codes, OnOk, string_bytes, flat_map};
 ghost use Rattle.std.specs.Fmt.{decimal, digits, digit_glyph};
 ghost use Rattle.std.specs.Net.Text.{ipv4_text};
 ghost use Rattle.report_text.specs.Words.{class_text, hook_text, event_text, groups_of, groups_text, v6_text, endpoint_text, bytes_text, piece_text, seen_text, reason_text};
-ghost use Rattle.app_api.specs.App.{is_field_name};
 
 use app_api::{Bytes, Reason, Seen, event_name};
 use flow_table::Endpoint;
@@ -219,15 +218,4 @@ pub(crate) fn push_reason(line: &mut String, reason: Reason) -> Result<(), Alloc
         Reason::Reg(number) => push_labelled(line, "reg ", u64::from(number)),
         Reason::Rule(number) => push_labelled(line, "rule ", u64::from(number)),
     }
-}
-
-// The name of a field: each of its bytes is a character.
-pub(crate) fn push_name(line: &mut String, name: &[u8]) -> Result<(), AllocError>
-    requires { IsTrue (is_field_name name.now) }
-    ensures { OnOk result (string_bytes line.new ≡ string_bytes line.old ++ name.now) }
-{
-    for byte in name {
-        line.push(char::from(*byte))?;
-    }
-    Ok(())
 }

@@ -1,13 +1,12 @@
 //! Writes a report to a sink, each line by one call.
 
-ghost use Rattle.std.specs.Prelude.{◌≡◌, IsErrOf, IsTrue, flat_map};
-ghost use Rattle.mos_bytes.specs.Causes.{HasCauseOf};
+ghost use Rattle.std.specs.Prelude.{◌≡◌, IsTrue, flat_map};
 ghost use Rattle.callback_log.specs.Walk.{entry_lent};
 ghost use Rattle.report_text.specs.Lines.{head_line, callback_line, drop_line, field_line, totals_line};
 ghost use Rattle.report_text.specs.Ranges.{totals_fit};
-ghost use Rattle.report_text.specs.Report.{rest_text, record_text, records_text, report_text};
+ghost use Rattle.report_text.specs.Report.{record_text, records_text, report_text};
 ghost use Rattle.report_text.specs.Tidy.{are_named, is_tidy_record, tidy};
-ghost use Rattle.report_text.specs.Written.{Adds};
+ghost use Rattle.report_text.specs.Written.{WritesText};
 ghost use Rattle.std.specs.List.{list_all};
 ghost use Rattle.app_api.specs.App.{is_field_name};
 
@@ -60,9 +59,7 @@ fn write_long<O: Sink>(
     line: &mut String,
     callback: &Callback<'_>,
 ) -> Result<(), TextError>
-    ensures text { Adds O.Sink out.old out.new result (callback_line (entry_lent callback.now)) }
-    ensures cause { HasCauseOf (O.faults out.old) (O.faults out.new) (IsErrOf result TextError.WriteFault) }
-    ensures lasts { O.lasting out.new ≡ O.lasting out.old }
+    ensures text { WritesText O.Sink out.old out.new result (callback_line (entry_lent callback.now)) }
 {
     line.clear();
     push_callback(alloc, line, callback)?;
@@ -78,9 +75,7 @@ pub(crate) fn write_callback<O: Sink>(
     short: &mut ShortLine,
     callback: &Callback<'_>,
 ) -> Result<(), TextError>
-    ensures text { Adds O.Sink out.old out.new result (callback_line (entry_lent callback.now)) }
-    ensures cause { HasCauseOf (O.faults out.old) (O.faults out.new) (IsErrOf result TextError.WriteFault) }
-    ensures lasts { O.lasting out.new ≡ O.lasting out.old }
+    ensures text { WritesText O.Sink out.old out.new result (callback_line (entry_lent callback.now)) }
 {
     if !short.put_callback(callback) {
         return write_long(alloc, out, line, callback);
@@ -97,9 +92,7 @@ pub(crate) fn write_head<O: Sink>(
     kind: &RecordKind,
     version: u32,
 ) -> Result<(), TextError>
-    ensures text { Adds O.Sink out.old out.new result (head_line name kind.now version) }
-    ensures cause { HasCauseOf (O.faults out.old) (O.faults out.new) (IsErrOf result TextError.WriteFault) }
-    ensures lasts { O.lasting out.new ≡ O.lasting out.old }
+    ensures text { WritesText O.Sink out.old out.new result (head_line name kind.now version) }
 {
     row.put_head(name, kind, version);
     out.write_all(row.text())?;
@@ -112,30 +105,10 @@ fn write_drop<O: Sink>(
     index: u64,
     reason: Reason,
 ) -> Result<(), TextError>
-    ensures text { Adds O.Sink out.old out.new result (drop_line (index, reason)) }
-    ensures cause { HasCauseOf (O.faults out.old) (O.faults out.new) (IsErrOf result TextError.WriteFault) }
-    ensures lasts { O.lasting out.new ≡ O.lasting out.old }
+    ensures text { WritesText O.Sink out.old out.new result (drop_line (index, reason)) }
 {
     row.put_drop(index, reason);
     out.write_all(row.text())?;
-    Ok(())
-}
-
-// A field's line, of a name of any length.
-fn write_long_field<O: Sink>(
-    out: &mut O,
-    line: &mut String,
-    name: &[u8],
-    value: u64,
-) -> Result<(), TextError>
-    requires { IsTrue (is_field_name name.now) }
-    ensures text { Adds O.Sink out.old out.new result (field_line (name.now, value)) }
-    ensures cause { HasCauseOf (O.faults out.old) (O.faults out.new) (IsErrOf result TextError.WriteFault) }
-    ensures lasts { O.lasting out.new ≡ O.lasting out.old }
-{
-    line.clear();
-    push_field(line, name, value)?;
-    out.write_all(line.as_bytes())?;
     Ok(())
 }
 
@@ -148,12 +121,13 @@ pub(crate) fn write_field<O: Sink>(
     value: u64,
 ) -> Result<(), TextError>
     requires { IsTrue (is_field_name name.now) }
-    ensures text { Adds O.Sink out.old out.new result (field_line (name.now, value)) }
-    ensures cause { HasCauseOf (O.faults out.old) (O.faults out.new) (IsErrOf result TextError.WriteFault) }
-    ensures lasts { O.lasting out.new ≡ O.lasting out.old }
+    ensures text { WritesText O.Sink out.old out.new result (field_line (name.now, value)) }
 {
     if !row.put_field(name, value) {
-        return write_long_field(out, line, name, value);
+        line.clear();
+        push_field(line, name, value)?;
+        out.write_all(line.as_bytes())?;
+        return Ok(());
     }
     out.write_all(row.text())?;
     Ok(())
@@ -165,9 +139,7 @@ fn write_entries<O: Sink>(
     line: &mut String,
     entries: &[Entry],
 ) -> Result<(), TextError>
-    ensures text { Adds O.Sink out.old out.new result (flat_map callback_line entries.now) }
-    ensures cause { HasCauseOf (O.faults out.old) (O.faults out.new) (IsErrOf result TextError.WriteFault) }
-    ensures lasts { O.lasting out.new ≡ O.lasting out.old }
+    ensures text { WritesText O.Sink out.old out.new result (flat_map callback_line entries.now) }
 {
     let mut short = ShortLine::new();
     for entry in entries {
@@ -181,9 +153,7 @@ pub(crate) fn write_drops<O: Sink>(
     row: &mut BackwardLine,
     drops: &[(u64, Reason)],
 ) -> Result<(), TextError>
-    ensures text { Adds O.Sink out.old out.new result (flat_map drop_line drops.now) }
-    ensures cause { HasCauseOf (O.faults out.old) (O.faults out.new) (IsErrOf result TextError.WriteFault) }
-    ensures lasts { O.lasting out.new ≡ O.lasting out.old }
+    ensures text { WritesText O.Sink out.old out.new result (flat_map drop_line drops.now) }
 {
     for (index, reason) in drops {
         write_drop(out, row, *index, *reason)?;
@@ -198,32 +168,12 @@ fn write_fields<O: Sink>(
     fields: &[(Bytes, u64)],
 ) -> Result<(), TextError>
     requires { IsTrue (are_named fields.now) }
-    ensures text { Adds O.Sink out.old out.new result (flat_map field_line fields.now) }
-    ensures cause { HasCauseOf (O.faults out.old) (O.faults out.new) (IsErrOf result TextError.WriteFault) }
-    ensures lasts { O.lasting out.new ≡ O.lasting out.old }
+    ensures text { WritesText O.Sink out.old out.new result (flat_map field_line fields.now) }
 {
     for (name, value) in fields {
         write_field(out, line, row, name.as_slice(), *value)?;
     }
     Ok(())
-}
-
-// The lines that follow a record's first line.
-fn write_rest<O: Sink>(
-    alloc: Global,
-    out: &mut O,
-    line: &mut String,
-    row: &mut BackwardLine,
-    of: &Record,
-) -> Result<(), TextError>
-    requires { IsTrue (is_tidy_record of.now) }
-    ensures text { Adds O.Sink out.old out.new result (rest_text of.now) }
-    ensures cause { HasCauseOf (O.faults out.old) (O.faults out.new) (IsErrOf result TextError.WriteFault) }
-    ensures lasts { O.lasting out.new ≡ O.lasting out.old }
-{
-    write_entries(alloc, out, line, of.entries.as_slice())?;
-    write_drops(out, row, of.drops.as_slice())?;
-    write_fields(out, line, row, of.fields.as_slice())
 }
 
 fn write_record<O: Sink>(
@@ -233,13 +183,13 @@ fn write_record<O: Sink>(
     of: &Record,
 ) -> Result<(), TextError>
     requires { IsTrue (is_tidy_record of.now) }
-    ensures text { Adds O.Sink out.old out.new result (record_text of.now) }
-    ensures cause { HasCauseOf (O.faults out.old) (O.faults out.new) (IsErrOf result TextError.WriteFault) }
-    ensures lasts { O.lasting out.new ≡ O.lasting out.old }
+    ensures text { WritesText O.Sink out.old out.new result (record_text of.now) }
 {
     let mut row = BackwardLine::new();
     write_head(out, &mut row, of.name, &of.kind, of.version)?;
-    write_rest(alloc, out, line, &mut row, of)
+    write_entries(alloc, out, line, of.entries.as_slice())?;
+    write_drops(out, &mut row, of.drops.as_slice())?;
+    write_fields(out, line, &mut row, of.fields.as_slice())
 }
 
 fn write_records<O: Sink>(
@@ -249,9 +199,7 @@ fn write_records<O: Sink>(
     records: &[Record],
 ) -> Result<(), TextError>
     requires { IsTrue (list_all is_tidy_record records.now) }
-    ensures text { Adds O.Sink out.old out.new result (records_text records.now) }
-    ensures cause { HasCauseOf (O.faults out.old) (O.faults out.new) (IsErrOf result TextError.WriteFault) }
-    ensures lasts { O.lasting out.new ≡ O.lasting out.old }
+    ensures text { WritesText O.Sink out.old out.new result (records_text records.now) }
 {
     for of in records {
         write_record(alloc, out, line, of)?;
@@ -261,9 +209,7 @@ fn write_records<O: Sink>(
 
 /// Writes the last line of a report. At an `Err` the sink holds a front of it.
 pub fn write_totals<O: Sink>(alloc: Global, out: &mut O, totals: &Totals) -> Result<(), TextError>
-    ensures text { Adds O.Sink out.old out.new result (totals_line totals.now) }
-    ensures cause { HasCauseOf (O.faults out.old) (O.faults out.new) (IsErrOf result TextError.WriteFault) }
-    ensures lasts { O.lasting out.new ≡ O.lasting out.old }
+    ensures text { WritesText O.Sink out.old out.new result (totals_line totals.now) }
     ensures fits { IsTrue (totals_fit totals.now) }
 {
     totals_fit(totals);
@@ -282,9 +228,7 @@ pub fn write_report<O: Sink>(
     totals: &Totals,
 ) -> Result<(), TextError>
     requires tidy { IsTrue (tidy records.now) }
-    ensures text { Adds O.Sink out.old out.new result (report_text records.now totals.now) }
-    ensures cause { HasCauseOf (O.faults out.old) (O.faults out.new) (IsErrOf result TextError.WriteFault) }
-    ensures lasts { O.lasting out.new ≡ O.lasting out.old }
+    ensures text { WritesText O.Sink out.old out.new result (report_text records.now totals.now) }
 {
     let mut line = String::new(alloc);
     write_records(alloc, out, &mut line, records)?;

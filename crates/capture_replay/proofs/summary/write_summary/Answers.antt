@@ -16,4 +16,4 @@ pub returns-in_err-write_totals-clause-text : goal.returns-in_err-write_totals-c
 unfolding summary_text
 returns-in_err-write_totals-clause-text g c =
     let error = err_from_is_err_and c.from_residual-in_err-write_totals.result c.from_residual-in_err-write_totals.ensures.1 in
-    rw (error.1) (AppendsFront-after _ _ _ _ _ (subst (Appends _ _) (c.as_bytes.ensures.value ∙ c.in_ok-line.ensures) c.in_ok-write_all.ensures.bytes) c.in_err-write_totals.ensures.text)
+    rw (error.1) (AppendsFront-after _ _ _ _ _ (subst (Appends _ _) (c.as_bytes.ensures.value ∙ c.in_ok-line.ensures) c.in_ok-write_all.ensures.bytes) c.in_err-write_totals.ensures.text.adds)

@@ -1,4 +1,4 @@
-use Rattle.std.proofs.Common.{drop, refl, subst, sym}
+use Rattle.std.proofs.Common.{rules, drop, refl, subst, sym}
 use Rattle.std.specs.Io.KnownBytes.{Appends}
 use Rattle.std.proofs.KnownBytes.{Appends-trans}
 use Rattle.mos_bytes.specs.Writes.{AppendsFront}
@@ -14,9 +14,12 @@ returns-in_err-write_lines-clause-text g c =
     let records = c.args.piece.records.now in
     let made = c.made_by-made.ensures app records c.requires.piece in
     let next = lines-made app records c.made_by-made.result c.deref.result.now (drop c.made_by-made.result.done records) made c.deref.ensures.value refl in
-    WriteAdds-err _ _ _ _ c.from_residual.ensures.0
-    (subst (AppendsFront (g.O.Sink.taken c.args.out.now) (g.O.Sink.taken c.write_lines.new.out)) (sym next)
-    (AppendsFront-more _ _ _ _ c.in_err-write_lines.ensures.text))
+    record {
+      adds = WriteAdds-err _ _ _ _ c.from_residual.ensures.0
+          (subst (AppendsFront (g.O.Sink.taken c.args.out.now) (g.O.Sink.taken c.write_lines.new.out)) (sym next)
+          (AppendsFront-more _ _ _ _ c.in_err-write_lines.ensures.text));
+      to = search rules;
+    }
 
 pub returns-in_err-write_all_kept-clause-text : goal.returns-in_err-write_all_kept-clause-text
 returns-in_err-write_all_kept-clause-text g c =
@@ -24,9 +27,12 @@ returns-in_err-write_all_kept-clause-text g c =
     let records = c.args.piece.records.now in
     let made = c.made_by-made.ensures app records c.requires.piece in
     let next = lines-made app records c.made_by-made.result c.deref.result.now _ made c.deref.ensures.value c.split_at.ensures.back in
-    WriteAdds-err _ _ _ _ c.from_residual-in_err-write_all_kept.ensures.0
-    (subst (AppendsFront (g.O.Sink.taken c.args.out.now) (g.O.Sink.taken c.write_all_kept.new.out)) (sym next)
-    (AppendsFront-after _ _ _ _ _ c.in_ok-write_lines.ensures.text c.in_err-write_all_kept.ensures.text))
+    record {
+      adds = WriteAdds-err _ _ _ _ c.from_residual-in_err-write_all_kept.ensures.0
+          (subst (AppendsFront (g.O.Sink.taken c.args.out.now) (g.O.Sink.taken c.write_all_kept.new.out)) (sym next)
+          (AppendsFront-after _ _ _ _ _ c.in_ok-write_lines.ensures.text c.in_err-write_all_kept.ensures.text));
+      to = search rules;
+    }
 
 pub returns-clause-text : goal.returns-clause-text
 returns-clause-text g c =
@@ -34,8 +40,11 @@ returns-clause-text g c =
     let records = c.args.piece.records.now in
     let made = c.made_by-made.ensures app records c.requires.piece in
     let next = lines-made app records c.made_by-made.result c.deref.result.now _ made c.deref.ensures.value c.split_at.ensures.back in
-    subst (Appends (g.O.Sink.taken c.args.out.now) (g.O.Sink.taken c.write_all_kept.new.out)) (sym next)
-    (Appends-trans _ _ _ _ _ c.in_ok-write_lines.ensures.text c.in_ok-write_all_kept.ensures.text)
+    record {
+      adds = subst (Appends (g.O.Sink.taken c.args.out.now) (g.O.Sink.taken c.write_all_kept.new.out)) (sym next)
+          (Appends-trans _ _ _ _ _ c.in_ok-write_lines.ensures.text c.in_ok-write_all_kept.ensures.text);
+      to = search rules;
+    }
 
 pub returns-clause-fits : goal.returns-clause-fits
 returns-clause-fits g c done =

@@ -1,7 +1,6 @@
 use Rattle.std.proofs.Common.{◌≡◌, ◌++◌, ap, arith, length, refl, subst, sym, ◌∙◌}
 use Rattle.std.proofs.lemmas.List.{nil_from_length}
-use Rattle.mos_bytes.proofs.Writes.{AppendsFront-nil}
-use Rattle.mos_bytes.proofs.Writing.{Writing, Writing-done, Writing-failed, Writing-more, WriteAdds-err}
+use Rattle.report_text.proofs.WritesText.{Underway, underway-done, underway-more, underway-part, refused-before}
 use Rattle.parallel_report.specs.Pieces.{ArePieces, records_of}
 use Rattle.parallel_report.proofs.Fitting.{fit, fit-first}
 use Rattle.parallel_report.proofs.Lines.{lines}
@@ -10,7 +9,7 @@ use Rattle.parallel_report.proofs.report.write_pieces.Goals as goal
 use Rattle.parallel_report.proofs.report.write_pieces.Goals.{else-len-most-via-then-len-most+else-not-is_empty, else-len-most-via-else-len-most}
 
 pub returns-in_err-ahead-clause-text : goal.returns-in_err-ahead-clause-text
-returns-in_err-ahead-clause-text g c = WriteAdds-err _ _ _ _ c.from_residual.ensures.0 (AppendsFront-nil _ _)
+returns-in_err-ahead-clause-text g c = refused-before g.O.Sink _ _ _ c.from_residual.ensures.1
 
 pub loop-left-preserved-then-not-is_empty : goal.loop-left-preserved-then-not-is_empty
 loop-left-preserved-then-not-is_empty g c =
@@ -24,8 +23,7 @@ loop-left-preserved-then-not-is_empty g c =
       pieces = subst (ArePieces g.A.App app) (sym c.push_back_reserved.ensures.items)
           (one-more g.A.App app c.loop-left.ahead.items c.start_piece-piece.result i.pieces c.start_piece-piece.ensures.piece);
       room = let e = c.push_back_reserved.ensures.capacity in let r = i.room in omega (arith, e, r);
-      written = subst (λ rs. Writing g.O.Sink.taken g.O.Sink.faults c.args.out.now c.loop-left.out (lines app c.args.records.now) (lines app rs)) (sym same) i.written;
-      lasts = i.lasts;
+      written = subst (λ rs. Underway g.O.Sink c.args.out.now c.loop-left.out (lines app c.args.records.now) (lines app rs)) (sym same) i.written;
       some = i.some;
       fit = i.fit ∙ ap (fit app) (sym same);
     }
@@ -38,7 +36,7 @@ returns-in-None-clause-text g c =
       | else-len-most-via-then-len-most+else-not-is_empty w ↦ grind arith
       | else-len-most-via-else-len-most w ↦ grind arith
     ] in
-    Writing-done g.O.Sink.taken g.O.Sink.faults _ _ _ _ c.loop-left.invariant.written
+    underway-done g.O.Sink _ _ _ _ _ c.loop-left.invariant.written
     (ap (λ ps. lines app (records_of ps ++ c.loop-left.left.now)) (nil_from_length c.loop-left.ahead.items none)
     ∙ ap (lines app) (nil_from_length c.loop-left.left.now empty))
 
@@ -56,8 +54,8 @@ returns-in-None-clause-fits g c done =
 pub returns-in_err-share-in-Some-clause-text : goal.returns-in_err-share-in-Some-clause-text
 returns-in_err-share-in-Some-clause-text g c =
     let next = lines-first (g.A.App.meaning c.args.app.now) c.loop-left.ahead.items c.in-Some.piece c.pop_front.new.self.items c.loop-left.left.now c.in-Some.ensures.items in
-    WriteAdds-err _ _ _ _ c.from_residual-in_err-share-in-Some.ensures.0
-    (Writing-failed g.O.Sink.taken g.O.Sink.faults _ _ _ _ _ _ _ c.loop-left.invariant.written next c.in_err-share-in-Some.ensures.text)
+    underway-part g.O.Sink _ _ _ _ _ _ _ _ _ c.loop-left.invariant.written next c.in_err-share-in-Some.ensures.text
+    c.from_residual-in_err-share-in-Some.ensures.1
 
 pub loop-left-preserved : goal.loop-left-preserved
 loop-left-preserved g c =
@@ -67,8 +65,7 @@ loop-left-preserved g c =
     record {
       pieces = (first-and-others g.A.App app c.loop-left.ahead.items c.in-Some.piece c.pop_front.new.self.items c.in-Some.ensures.items i.pieces).1;
       room = let e = c.pop_front.ensures.capacity in let r = i.room in omega (arith, e, r);
-      written = Writing-more g.O.Sink.taken g.O.Sink.faults _ _ _ _ _ _ _ i.written next c.in_ok-share-in-Some.ensures.text c.write_piece.ensures.cause.later;
-      lasts = c.write_piece.ensures.lasts ∙ i.lasts;
+      written = underway-more g.O.Sink _ _ _ _ _ _ _ _ i.written next c.in_ok-share-in-Some.ensures.text;
       some = c.in_ok-share-in-Some.ensures.some;
       fit = fit-first app (fit app c.args.records.now) c.loop-left.ahead.items c.in-Some.piece c.pop_front.new.self.items c.loop-left.left.now
           c.in-Some.ensures.items i.fit (c.in_ok-share-in-Some.ensures.fits refl);

@@ -1,6 +1,6 @@
 use Rattle.std.proofs.Common.{◌≡◌, ◌<◌, ◌≤◌, ◌+◌, ◌*◌, ◌++◌, length}
 use Rattle.std.specs.VecDeque.{deque_capacity}
-use Rattle.mos_bytes.proofs.Writing.{Writing}
+use Rattle.report_text.proofs.WritesText.{Underway}
 use Rattle.parallel_report.specs.Pieces.{ArePieces, records_of}
 use Rattle.parallel_report.proofs.Fitting.{fit}
 use Rattle.parallel_report.proofs.Lines.{lines}
@@ -11,9 +11,8 @@ abbrev pub invariant-loop-left : goal.invariant-loop-left
 invariant-loop-left g l = record {
   pieces : ArePieces g.A.App (g.A.App.meaning l.app) l.ahead.items;
   room : l.most ≤ deque_capacity l.ahead;
-  written : Writing g.O.Sink.taken g.O.Sink.faults l.initial.out l.out (lines (g.A.App.meaning l.app) l.records)
+  written : Underway g.O.Sink l.initial.out l.out (lines (g.A.App.meaning l.app) l.records)
       (lines (g.A.App.meaning l.app) (records_of l.ahead.items ++ l.left));
-  lasts : g.O.Sink.lasting l.out ≡ g.O.Sink.lasting l.initial.out;
   some : 0 < l.share;
   fit : fit (g.A.App.meaning l.app) l.records ≡ fit (g.A.App.meaning l.app) (records_of l.ahead.items ++ l.left);
 }

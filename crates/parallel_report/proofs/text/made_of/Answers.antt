@@ -1,4 +1,4 @@
-use Rattle.std.proofs.Common.{◌∙◌, sym, ap, arith, refl, ◌++◌}
+use Rattle.std.proofs.Common.{◌∙◌, sym, ap, arith, ◌++◌}
 use Rattle.lane_core.specs.End.{ended}
 use Rattle.report_text.specs.Report.{record_text}
 use Rattle.parallel_report.proofs.Fitting.{fit-more}

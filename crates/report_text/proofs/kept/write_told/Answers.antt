@@ -1,12 +1,13 @@
-use Rattle.std.proofs.Common.{◌∙◌, ◌≡◌, ◌+◌, ◌++◌, ℕ, List, drop, sym, ap, subst, true, flat_map}
+use Rattle.std.proofs.Common.{◌∙◌, ◌≡◌, ◌+◌, ◌++◌, ℕ, List, arith, drop, sym, ap, subst, true, flat_map}
 use Rattle.app_api.specs.App.{field_shown, is_field_name}
+use Rattle.std.proofs.lemmas.List.{at_drop_all}
 use Rattle.std.proofs.lemmas.Option.{slice_get_within, get_or_from_slice_get}
 use Rattle.report_text.specs.Lines.{field_line}
 use Rattle.report_text.proofs.Each.{passes-at}
 use Rattle.report_text.specs.Ranges.{field_fits}
 use Rattle.report_text.proofs.Fitting.{all-later, all-none, asked-later, asked-past}
 use Rattle.report_text.proofs.Pieces.{fields-asked, fields-past}
-use Rattle.mos_bytes.proofs.Writing.{Writing-more, Writing-failed, Writing-done, WriteAdds-err}
+use Rattle.report_text.proofs.WritesText.{underway-done, underway-more, underway-part}
 use Rattle.report_text.proofs.kept.write_told.Goals as goal
 
 pub write_field-requires : goal.write_field-requires
@@ -24,9 +25,8 @@ loop-place-preserved g c =
     let next = fields-asked fields c.loop-place.place (c.in-Some.name.now, c.in-Some.value) (sym c.field.ensures ∙ ap field_shown c.in-Some.is) in
     let read = subst (λ n. flat_map field_line (drop c.loop-place.place fields) ≡ field_line (n, c.in-Some.value) ++ flat_map field_line (drop (c.loop-place.place + 1) fields))
     (sym c.as_bytes.ensures.value) next in (
-      Writing-more g.O.Sink.taken g.O.Sink.faults _ _ _ _ _ _ _ c.loop-place.invariant.0 read c.in_ok-write_field.ensures.text c.write_field.ensures.cause.later,
-      c.write_field.ensures.lasts ∙ c.loop-place.invariant.1,
-      all-later field_fits _ _ _ _ c.loop-place.invariant.2
+      underway-more g.O.Sink _ _ _ _ _ _ _ _ c.loop-place.invariant.0 read c.in_ok-write_field.ensures.text,
+      all-later field_fits _ _ _ _ c.loop-place.invariant.1
           (asked-later fields c.loop-place.place (c.in-Some.name.now, c.in-Some.value) (sym c.field.ensures ∙ ap field_shown c.in-Some.is)) c.field_fits.ensures,
     )
 
@@ -36,16 +36,22 @@ returns-in_err-write_field-clause-text g c =
     let next = fields-asked fields c.loop-place.place (c.in-Some.name.now, c.in-Some.value) (sym c.field.ensures ∙ ap field_shown c.in-Some.is) in
     let read = subst (λ n. flat_map field_line (drop c.loop-place.place fields) ≡ field_line (n, c.in-Some.value) ++ flat_map field_line (drop (c.loop-place.place + 1) fields))
     (sym c.as_bytes.ensures.value) next in
-    WriteAdds-err _ _ _ _ c.from_residual.ensures.0
-    (Writing-failed g.O.Sink.taken g.O.Sink.faults _ _ _ _ _ _ _ c.loop-place.invariant.0 read c.in_err-write_field.ensures.text)
+    underway-part g.O.Sink _ _ _ _ _ _ _ _ _ c.loop-place.invariant.0 read c.in_err-write_field.ensures.text c.from_residual.ensures.1
+
+pub returns-after-loop-place-clause-text : goal.returns-after-loop-place-clause-text
+returns-after-loop-place-clause-text g c =
+    let few = (g.met.A.App.lawful c.args.app.now).few c.args.tally.now in
+    let past = c.loop-place-test.false in
+    underway-done g.O.Sink _ _ _ _ _ c.loop-place.invariant.0
+    (at_drop_all (flat_map field_line) ((g.A.App.meaning c.args.app.now).fields c.args.tally.now) c.loop-place.place (omega (arith, few, past)))
 
 pub returns-in_default-clause-text : goal.returns-in_default-clause-text
 returns-in_default-clause-text g c =
     let fields = (g.A.App.meaning c.args.app.now).fields c.args.tally.now in
-    Writing-done g.O.Sink.taken g.O.Sink.faults _ _ _ _ c.loop-place.invariant.0
+    underway-done g.O.Sink _ _ _ _ _ c.loop-place.invariant.0
     (fields-past fields c.loop-place.place (sym c.field.ensures ∙ ap field_shown c.in_default.is))
 
 pub returns-in_default-clause-fits : goal.returns-in_default-clause-fits
 returns-in_default-clause-fits g c done =
     let fields = (g.A.App.meaning c.args.app.now).fields c.args.tally.now in
-    all-none field_fits _ _ c.loop-place.invariant.2 (asked-past fields c.loop-place.place (sym c.field.ensures ∙ ap field_shown c.in_default.is))
+    all-none field_fits _ _ c.loop-place.invariant.1 (asked-past fields c.loop-place.place (sym c.field.ensures ∙ ap field_shown c.in_default.is))

@@ -40,7 +40,7 @@ returns-in_err-write_totals-clause-text g c = λ good events r.
     (totals_in_part self.keep (g.A.App.meaning self.app) (ended_run (g.A.App.meaning self.app) events c.args.greatest)
     lane.closed.list.items lane.closed.callbacks lane.closed.drops (lane.ensures.closed good events r)
     c.args.packets c.len.result c.args.tail (c.len.ensures ∙ sym c.deref-2.ensures.len ∙ ap length c.deref-2.ensures.value)
-    _ _ _ _ lines c.in_ok-write_all_kept.ensures.text c.in_err-write_totals.ensures.text)
+    _ _ _ _ lines c.in_ok-write_all_kept.ensures.text c.in_err-write_totals.ensures.text.adds)
 
 pub returns-clause-text : goal.returns-clause-text
 returns-clause-text g c = λ good events r.
@@ -51,7 +51,7 @@ returns-clause-text g c = λ good events r.
     all_written self.keep (g.A.App.meaning self.app) (ended_run (g.A.App.meaning self.app) events c.args.greatest) lane.closed.list.items
     lane.closed.callbacks lane.closed.drops (lane.ensures.closed good events r)
     c.args.packets c.len.result c.args.tail (c.len.ensures ∙ sym c.deref-2.ensures.len ∙ ap length c.deref-2.ensures.value)
-    _ _ _ _ lines c.in_ok-write_all_kept.ensures.text c.in_ok-write_totals.ensures.text
+    _ _ _ _ lines c.in_ok-write_all_kept.ensures.text c.in_ok-write_totals.ensures.text.adds
 
 pub returns-clause-versions : goal.returns-clause-versions
 returns-clause-versions g c = λ good events r.

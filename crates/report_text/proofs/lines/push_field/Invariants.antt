@@ -1,5 +1,5 @@
 use Rattle.std.proofs.Common.{◌≡◌, ◌++◌, string_bytes, take}
-use Rattle.report_text.proofs.words.push_name.Given as goal
+use Rattle.report_text.proofs.lines.push_field.Given as goal
 
 -- so many bytes of the name are there
 abbrev pub invariant-loop-byte : goal.invariant-loop-byte
