@@ -12,3 +12,4 @@ pub mod Walk
 pub mod Later
 pub mod Insert
 pub mod Remove
+pub mod Stored

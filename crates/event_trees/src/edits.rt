@@ -1,13 +1,11 @@
 //! A copy of a tree with one registration more or one less.
 
-ghost use Rattle.std.specs.Prelude.{◌≡◌, ◌≤◌, eqb, false, length, IsTrue, IfOk};
-ghost use Rattle.std.specs.List.{IsDistinct};
+ghost use Rattle.std.specs.Prelude.{◌≡◌, ◌≤◌, false, length, IsTrue, IfOk};
 ghost use Rattle.std.specs.List.Sorted.{IsStrictlySortedBy};
 ghost use Rattle.std.specs.Ordering.{is_lt};
-ghost use Rattle.shared_forest.specs.Listing.{listing};
 ghost use Rattle.event_trees.specs.Canon.{IsCanonOf};
 ghost use Rattle.event_trees.specs.Build.{seen};
-ghost use Rattle.event_trees.specs.ReadOff.{placed_in, placed_numbers, AreShort};
+ghost use Rattle.event_trees.specs.ReadOff.{placed_in, IsListed};
 ghost use Rattle.event_trees.specs.Edit.{placed_cmp, has_placed, switched};
 
 use crate::insert::tree_with;
@@ -35,11 +33,7 @@ pub(crate) fn tree_switched(
     reg: &PlacedReg,
     on: bool,
 ) -> Result<Tree, AllocError>
-    requires short { AreShort (listing tree.now) }
-    requires canon { IsCanonOf (placed_in tree.now) tree.now }
-    requires order { IsStrictlySortedBy placed_cmp (placed_in tree.now) }
-    requires distinct { IsDistinct eqb (placed_numbers (placed_in tree.now)) }
-    requires few { length (placed_in tree.now) ≤ 255 }
+    requires listed { IsListed tree.now }
     requires there { on ≡ false → IsTrue (has_placed reg.now.slot.number (placed_in tree.now)) }
     requires new_order { IsStrictlySortedBy placed_cmp (switched (seen reg.now) on (placed_in tree.now)) }
     requires new_few { length (switched (seen reg.now) on (placed_in tree.now)) ≤ 255 }

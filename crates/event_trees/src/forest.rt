@@ -1,13 +1,13 @@
 //! Trees in a store: the tree of a private list, and the tree of an edited one.
 
-ghost use Rattle.std.specs.Prelude.{◌≡◌, ◌≤◌, List, IsTrue, IfOk, OnErr};
+ghost use Rattle.std.specs.Prelude.{◌≡◌, ◌≤◌, List, IsTrue, IfOk};
 ghost use Rattle.shared_forest.specs.Listing.{listing};
-ghost use Rattle.shared_forest.specs.Store.{Keeps, CountsAtMost};
 ghost use Rattle.event_trees.specs.Private.{IsPrivate, edited};
 ghost use Rattle.app_api.specs.declared.registration.Reg.{Reg as RegOf};
 ghost use Rattle.event_trees.specs.Defs.{is_event};
 ghost use Rattle.event_trees.specs.Edit.{IsTreeOf, IsSwitchable};
 ghost use Rattle.event_trees.specs.Canon.{canon};
+ghost use Rattle.event_trees.specs.Stored.{Stores};
 
 use crate::defs::Defs;
 use crate::edits::tree_switched;
@@ -27,9 +27,7 @@ pub fn build<F: Forests>(
     requires { IsPrivate defs.now active.now }
     ensures answered { IfOk result (λ s. F.answered f.new s) }
     ensures listing { IfOk result (λ s. listing (F.content f.new s) ≡ canon defs.now active.now) }
-    ensures kept { Keeps F.answered F.content f.old f.new }
-    ensures counted { CountsAtMost (F.interns f.old) (F.interns f.new) }
-    ensures err { OnErr result (f.new ≡ f.old) }
+    ensures stored { Stores F.ForestView f.old f.new result }
 {
     let regs = place_all(alloc, defs, active.as_slice())?;
     let tree = tree_of(alloc, &regs)?;
@@ -59,9 +57,7 @@ pub fn edit<F: Forests>(
         → IsSwitchable list reg.now on
         → IfOk result (λ s. IsTreeOf defs.now (edited defs.now list reg.now on) (F.content f.new s)) }
 
-    ensures kept { Keeps F.answered F.content f.old f.new }
-    ensures counted { CountsAtMost (F.interns f.old) (F.interns f.new) }
-    ensures err { OnErr result (f.new ≡ f.old) }
+    ensures stored { Stores F.ForestView f.old f.new result }
 {
     let placed = place(defs, reg);
     let new = tree_switched(alloc, f.tree_of(tree), &placed, on)?;

@@ -6,12 +6,12 @@ ghost use Rattle.std.specs.List.Sorted.{IsStrictlySortedBy};
 ghost use Rattle.std.specs.declared.cmp.Ordering.TheVariants.{Less};
 ghost use Rattle.std.specs.Ordering.{is_gt};
 ghost use Rattle.shared_forest.specs.Layout.{IsTree};
-ghost use Rattle.shared_forest.specs.Listing.{listing, path_after};
+ghost use Rattle.shared_forest.specs.Listing.{path_after};
 ghost use Rattle.event_trees.specs.EventPath.{path_of};
 ghost use Rattle.event_trees.specs.Private.{path_cmp};
 ghost use Rattle.event_trees.specs.Canon.{IsCanonOf};
 ghost use Rattle.event_trees.specs.Build.{seen, common};
-ghost use Rattle.event_trees.specs.ReadOff.{placed_in, AreShort};
+ghost use Rattle.event_trees.specs.ReadOff.{placed_in, IsListed};
 ghost use Rattle.event_trees.specs.Edit.{placed_cmp, put_placed};
 ghost use Rattle.event_trees.specs.Insert.{AfterReached, IsReach, IsBetween, IsSpot, IsUpTo, chain, raised, raised_by, moved, with_path};
 
@@ -203,9 +203,8 @@ fn nodes_with(
 
 /// A copy of a tree with one registration more.
 pub(crate) fn tree_with(alloc: Global, tree: &Tree, reg: &PlacedReg) -> Result<Tree, AllocError>
-    requires canon { IsCanonOf (placed_in tree.now) tree.now }
+    requires listed { IsListed tree.now }
     requires order { IsStrictlySortedBy placed_cmp (put_placed (seen reg.now) (placed_in tree.now)) }
-    requires short { AreShort (listing tree.now) }
     requires few { length (placed_in tree.now) < 255 }
     ensures { IfOk result (IsCanonOf (put_placed (seen reg.now) (placed_in tree.now))) }
 {

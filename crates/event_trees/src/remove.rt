@@ -1,12 +1,9 @@
 //! A copy of a tree with one registration less, and without the nodes that nothing needs any more.
 
-ghost use Rattle.std.specs.Prelude.{◌≡◌, ◌≤◌, ◌<◌, ◌+◌, ◌-◌, ◌++◌, [], length, take, drop, eqb, if◌then◌else◌, slice_index_or, IsTrue, IfOk, OnOk};
-ghost use Rattle.std.specs.List.{IsDistinct};
-ghost use Rattle.std.specs.List.Sorted.{IsStrictlySortedBy};
-ghost use Rattle.shared_forest.specs.Listing.{listing};
+ghost use Rattle.std.specs.Prelude.{◌≡◌, ◌≤◌, ◌<◌, ◌+◌, ◌-◌, ◌++◌, [], length, take, drop, if◌then◌else◌, slice_index_or, IsTrue, IfOk, OnOk};
 ghost use Rattle.event_trees.specs.Canon.{IsCanonOf};
-ghost use Rattle.event_trees.specs.ReadOff.{placed_in, placed_numbers, AreShort};
-ghost use Rattle.event_trees.specs.Edit.{placed_cmp, has_placed, without_placed};
+ghost use Rattle.event_trees.specs.ReadOff.{placed_in, IsListed};
+ghost use Rattle.event_trees.specs.Edit.{has_placed, without_placed};
 ghost use Rattle.event_trees.specs.Remove.{IsPlaceOf, IsOwner, IsBareFrom, IsKeep, no_node, lowered, moved_back, uncounted, kept_nodes as kept_of, without_nodes};
 
 use shared_forest::{Node, Slot, Tree};
@@ -110,19 +107,22 @@ fn uncount_last(nodes: &mut [Node])
     nodes[last].count = nodes[last].count.saturating_sub(1);
 }
 
-// The nodes that stay of those up to the registration's.
-fn kept_nodes(
-    alloc: Global,
-    nodes: &[Node],
+// The nodes that go: of so many up to `end`, those from `keep` on.
+#[derive(Clone, Copy, Debug)]
+struct Cut {
     keep: usize,
     end: usize,
-) -> Result<Vec<Node>, AllocError>
-    requires low { 1 ≤ end }
-    requires high { keep ≤ end }
-    requires within { end ≤ length nodes.now }
+    ghost low: { 1 ≤ end },
+    ghost high: { keep ≤ end },
+}
+
+// The nodes that stay of those up to the registration's.
+fn kept_nodes(alloc: Global, nodes: &[Node], cut: Cut) -> Result<Vec<Node>, AllocError>
+    requires within { cut.end ≤ length nodes.now }
     requires few { length nodes.now < 65536 }
-    ensures { IfOk result (λ kept. kept.items ≡ kept_of keep end nodes.now) }
+    ensures { IfOk result (λ kept. kept.items ≡ kept_of cut.keep cut.end nodes.now) }
 {
+    let Cut { keep, end } = cut;
     let mut kept = Vec::with_capacity(alloc, nodes.len())?;
     if keep < end {
         push_lowered(&mut kept, &nodes[..keep], (end - keep) as u32)?;
@@ -134,20 +134,13 @@ fn kept_nodes(
 }
 
 // The nodes without one registration of the last of so many, and without those that nothing needs.
-fn nodes_without(
-    alloc: Global,
-    nodes: &[Node],
-    keep: usize,
-    end: usize,
-) -> Result<Vec<Node>, AllocError>
-    requires low { 1 ≤ end }
-    requires high { keep ≤ end }
-    requires within { end ≤ length nodes.now }
+fn nodes_without(alloc: Global, nodes: &[Node], cut: Cut) -> Result<Vec<Node>, AllocError>
+    requires within { cut.end ≤ length nodes.now }
     requires few { length nodes.now < 65536 }
-    ensures { IfOk result (λ fewer. fewer.items ≡ without_nodes keep end nodes.now) }
+    ensures { IfOk result (λ fewer. fewer.items ≡ without_nodes cut.keep cut.end nodes.now) }
 {
-    let mut fewer = kept_nodes(alloc, nodes, keep, end)?;
-    push_moved_back(&mut fewer, &nodes[end..])?;
+    let mut fewer = kept_nodes(alloc, nodes, cut)?;
+    push_moved_back(&mut fewer, &nodes[cut.end..])?;
     Ok(fewer)
 }
 
@@ -164,12 +157,8 @@ fn slots_without(alloc: Global, slots: &[Slot], place: usize) -> Result<Vec<Slot
 
 /// A copy of a tree with one registration less.
 pub(crate) fn tree_without(alloc: Global, tree: &Tree, number: u8) -> Result<Tree, AllocError>
-    requires canon { IsCanonOf (placed_in tree.now) tree.now }
-    requires order { IsStrictlySortedBy placed_cmp (placed_in tree.now) }
-    requires distinct { IsDistinct eqb (placed_numbers (placed_in tree.now)) }
+    requires listed { IsListed tree.now }
     requires there { IsTrue (has_placed number (placed_in tree.now)) }
-    requires short { AreShort (listing tree.now) }
-    requires few { length (placed_in tree.now) ≤ 255 }
     ensures { IfOk result (IsCanonOf (without_placed number (placed_in tree.now))) }
 {
     let nodes = tree.nodes();
@@ -177,7 +166,7 @@ pub(crate) fn tree_without(alloc: Global, tree: &Tree, number: u8) -> Result<Tre
     let place = place_of(slots, number);
     let end = owner_of(tree, place) + 1;
     let keep = kept_before(nodes, end);
-    let fewer = nodes_without(alloc, nodes, keep, end)?;
+    let fewer = nodes_without(alloc, nodes, Cut { keep, end })?;
     let rest = slots_without(alloc, slots, place)?;
     Ok(Tree::new(fewer, rest))
 }

@@ -1,12 +1,12 @@
 -- The printed text of a filter reads as the filter, where its nesting is at most 32.
-use Rattle.std.proofs.Common.{◌≡◌, ℕ, ◌+◌, ◌<◌, ◌≤◌, true, false, eqb, Ok, List, [], ◌∷◌, ◌++◌, Option, Some, codes, lt-ltb, inl, inr, refl, ap, ◌∙◌, sym, append_assoc, append-nil, arith}
+use Rattle.std.proofs.Common.{◌≡◌, ℕ, suc, ◌+◌, ◌<◌, ◌≤◌, true, false, eqb, Ok, List, [], ◌∷◌, ◌++◌, Option, Some, codes, lt-ltb, inl, inr, refl, ap, ◌∙◌, sym, append_assoc, append-nil, arith}
 use Rattle.std.specs.Fmt.{decimal}
 use Rattle.filter_lang.specs.declared.term.Op.{Op}
 use Rattle.filter_lang.specs.declared.term.Op.TheVariants.{Eq, Ne, Lt, Le, Gt, Ge, Has}
 use Rattle.filter_lang.specs.declared.term.Sum.{Sum}
 use Rattle.filter_lang.specs.declared.token.Token.{Token}
 use Rattle.filter_lang.specs.declared.token.Token.TheVariants.{Close, Both, Either, End}
-use Rattle.filter_lang.specs.Grammar.{Level, left, right, Place, unit_place, native_place, behind_atom, behind_unit, Next, go, shapes_of, all_of, any_of, opened, opening, empty_level, behind_conjs, with_bang, with_unit, behind_conj, behind_expr, next, filter}
+use Rattle.filter_lang.specs.Grammar.{Level, left, right, Place, unit_place, native_place, behind_atom, behind_unit, Next, go, shapes_of, chain_of, opened, opening, behind_conjs, with_unit, behind_conj, behind_expr, next, filter}
 use Rattle.filter_lang.specs.Printed.{printed, and_texts, or_texts, behind_text, wrap, is_or, is_chain, nesting, wrapped_nesting, and_nesting, or_nesting, sum_text, op_text}
 use Rattle.filter_lang.specs.Shape.{Shape, Always, Never, Ask, Compare, Negate, AllOf, AnyOf, Shapes, none, more, HasTwo, IsWithin, AreWithin, SumIsWithin}
 use Rattle.filter_lang.specs.Tokens.{tokens}
@@ -76,7 +76,7 @@ pub record ReadsAsConj (text : List ℕ) (depth : ℕ) (s : Shape) : Type 0 wher
 
 pub record ReadsAsExpr (text : List ℕ) (depth : ℕ) (s : Shape) : Type 0 where
   pub same : (f : Follow) (os : List Level) → EndsUnits f → EndsConjs f → opened os + depth ≤ 32
-      → run (kinds 0 (text ++ follow_text f)) (unit_place empty_level os) ≡ taken f (behind_expr s os (follow_token f))
+      → run (kinds 0 (text ++ follow_text f)) (unit_place (behind_conjs []) os) ≡ taken f (behind_expr s os (follow_token f))
 
 conj_of_unit : (text : List ℕ) (depth : ℕ) (s : Shape) → ReadsAsUnit text depth s → ReadsAsConj text depth s
 conj_of_unit text depth s unit = record {
@@ -109,7 +109,7 @@ unit_of_expr text depth s expr = record {
       let small : l.bangs + opened os < 32 = omega arith in
       ap (λ xs. run (kinds 0 (codes "(" ++ xs)) (unit_place l os)) (append_assoc text (codes ")") rest)
       ∙ ap (λ ts. run ts (unit_place l os)) (open_read (text ++ follow_text inner))
-      ∙ ap (on (run (kinds 0 (text ++ follow_text inner)))) (opening-go (l.bangs + opened os) (unit_place empty_level (l ∷ os)) small)
+      ∙ ap (on (run (kinds 0 (text ++ follow_text inner)))) (opening-go (l.bangs + opened os) (unit_place (behind_conjs []) (l ∷ os)) small)
       ∙ expr.same inner (l ∷ os) (closed_ends_units rest) (closed_ends_conjs rest) (omega arith);
 }
 
@@ -156,15 +156,10 @@ units_read (more s ss) all f cs us os deep =
     ∙ units_read ss all.1 f cs (us ++ s ∷ []) os (omega arith)
     ∙ ap (λ xs. run (kinds 0 (follow_text f)) (behind_unit (record { conjs = cs; units = xs; bangs = 0 }) os)) (append_assoc us (s ∷ []) (list ss))
 
-all_of-list : (ss : Shapes) → HasTwo ss → all_of (list ss) ≡ AllOf ss
-all_of-list none h = absurd h
-all_of-list (more s none) h = absurd h
-all_of-list (more s (more t ss)) h = ap AllOf (chain-list (more s (more t ss)))
-
-any_of-list : (ss : Shapes) → HasTwo ss → any_of (list ss) ≡ AnyOf ss
-any_of-list none h = absurd h
-any_of-list (more s none) h = absurd h
-any_of-list (more s (more t ss)) h = ap AnyOf (chain-list (more s (more t ss)))
+chain_of-list : (node : Shapes → Shape) (ss : Shapes) → HasTwo ss → chain_of node (list ss) ≡ node ss
+chain_of-list node none h = absurd h
+chain_of-list node (more s none) h = absurd h
+chain_of-list node (more s (more t ss)) h = ap node (chain-list (more s (more t ss)))
 
 conj_of_and : (ss : Shapes) → HasTwo ss → AllRead ss → ReadsAsConj (printed (AllOf ss)) (and_nesting ss) (AllOf ss)
 conj_of_and none two all = absurd two
@@ -177,7 +172,7 @@ conj_of_and (more s ss) two all = record {
       ∙ all.0.unit.same (and_follow ss f) (behind_conjs cs) os (omega arith)
       ∙ units_read ss all.1 f cs (s ∷ []) os (omega arith)
       ∙ run-follow f (behind_unit l os)
-      ∙ ap (taken f) (next_behind-other (follow_token f) l os ends ∙ ap (λ x. behind_conj (cs ++ x ∷ []) os (follow_token f)) (all_of-list (more s ss) two));
+      ∙ ap (taken f) (next_behind-other (follow_token f) l os ends ∙ ap (λ x. behind_conj (cs ++ x ∷ []) os (follow_token f)) (chain_of-list AllOf (more s ss) two));
 }
 
 -- the members of an `||` chain behind the first
@@ -210,10 +205,10 @@ expr_of_or (more s ss) two all = record {
   same = λ f os units conjs deep.
       let text = wrap (is_or s) (printed s) in
       let behind = behind_text (codes " || ") (or_texts ss) in
-      ap (λ xs. run (kinds 0 xs) (unit_place empty_level os)) (append_assoc text behind (follow_text f) ∙ ap (λ xs. text ++ xs) (sym (or_follow-text ss f)))
+      ap (λ xs. run (kinds 0 xs) (unit_place (behind_conjs []) os)) (append_assoc text behind (follow_text f) ∙ ap (λ xs. text ++ xs) (sym (or_follow-text ss f)))
       ∙ all.0.conj.same (or_follow ss f) [] os (or_follow-ends ss f units) (omega arith)
       ∙ conjs_read ss all.1 f (s ∷ []) os units (omega arith)
-      ∙ ap (taken f) (behind_conj-other (follow_token f) (s ∷ list ss) os conjs ∙ ap (λ x. behind_expr x os (follow_token f)) (any_of-list (more s ss) two));
+      ∙ ap (taken f) (behind_conj-other (follow_token f) (s ∷ list ss) os conjs ∙ ap (λ x. behind_expr x os (follow_token f)) (chain_of-list AnyOf (more s ss) two));
 }
 
 -- the units that are no chains
@@ -272,8 +267,8 @@ unit_of_bang b text depth s other unit = record {
   same = λ f l os deep.
       let rest = text ++ follow_text f in
       ap (λ ts. run ts (unit_place l os)) (bang_read b rest other)
-      ∙ ap (on (run (kinds 0 (b ∷ rest)))) (opening-go (l.bangs + opened os) (unit_place (with_bang l) os) (omega arith))
-      ∙ unit.same f (with_bang l) os (omega arith);
+      ∙ ap (on (run (kinds 0 (b ∷ rest)))) (opening-go (l.bangs + opened os) (unit_place (record l { bangs = suc l.bangs }) os) (omega arith))
+      ∙ unit.same f (record l { bangs = suc l.bangs }) os (omega arith);
 }
 
 unit_of_negation : (s : Shape) → Reads s → ReadsAsUnit (printed (Negate s)) (nesting (Negate s)) (Negate s)
@@ -321,7 +316,7 @@ ended_ends_conjs e = cc
 
 pub filter-printed : (s : Shape) → IsWithin s → nesting s ≤ 32 → filter (printed s) ≡ Ok s
 filter-printed s within deep =
-    let p = unit_place empty_level [] in
+    let p = unit_place (behind_conjs []) [] in
     let whole : run (kinds 0 (printed s)) p ≡ Some s =
     ap (λ xs. run (kinds 0 xs) p) (sym (append-nil (printed s))) ∙ (reads_printed s within).expr.same ended [] ended_ends_units ended_ends_conjs (omega arith) in
     read-run (tokens (printed s)) p s (ap (λ ts. run ts p) (map-tokens_behind 0 0 (printed s)) ∙ whole)

@@ -6,8 +6,8 @@ use Rattle.filter_lang.specs.declared.term.Op.TheVariants.{Eq}
 use Rattle.filter_lang.specs.declared.term.Sum.{Sum}
 use Rattle.filter_lang.specs.declared.token.Token.{Token}
 use Rattle.filter_lang.specs.declared.token.Token.TheVariants.{Close, Compares, TrueWord, Numeral, End}
-use Rattle.filter_lang.specs.Grammar.{Level, Side, left, right, Place, unit_place, native_place, atom_place, behind_atom, behind_unit, Next, go, done, stop, next, steps, read, going, place_behind, any_of, with_conj, with_unit, alone, filter_begin, filter, IsRefused}
-use Rattle.filter_lang.specs.Shape.{Shape, Always, Ask, Compare}
+use Rattle.filter_lang.specs.Grammar.{Level, Side, left, right, Place, unit_place, native_place, atom_place, behind_atom, behind_unit, Next, go, done, stop, next, steps, read, going, place_behind, chain_of, with_unit, alone, filter_begin, filter, IsRefused}
+use Rattle.filter_lang.specs.Shape.{Shape, Always, Ask, Compare, AllOf, AnyOf}
 use Rattle.filter_lang.specs.Tokens.{Placed, is_blank, token_at, tokens_behind, tokens}
 
 abbrev placed : Token → Placed
@@ -21,9 +21,13 @@ closing (o ∷ os) = placed Close ∷ closing os
 abbrev GoesOn : Place → Type 0
 GoesOn p = (ts : List Placed) × (s : Shape) × (read ts p ≡ Ok s)
 
+-- what an expression is that ends behind a unit
+abbrev whole_of : Level → Shape
+whole_of l = chain_of AnyOf (l.conjs ++ chain_of AllOf l.units ∷ [])
+
 closes : (os : List Level) (l : Level) → (s : Shape) × (read (closing os) (behind_unit l os) ≡ Ok s)
-closes [] l = (any_of (with_conj l), refl)
-closes (o ∷ os) l = closes os (with_unit (any_of (with_conj l)) o)
+closes [] l = (whole_of l, refl)
+closes (o ∷ os) l = closes os (with_unit (whole_of l) o)
 
 unit_ends : (l : Level) (os : List Level) → GoesOn (behind_unit l os)
 unit_ends l os = let c = closes os l in (closing os, c.0, c.1)

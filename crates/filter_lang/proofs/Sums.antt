@@ -6,7 +6,7 @@ use Rattle.filter_lang.specs.declared.term.Atom.TheVariants.{Fact, Number}
 use Rattle.filter_lang.specs.declared.term.Join.{Join}
 use Rattle.filter_lang.specs.declared.term.Join.TheVariants.{Plus, Minus, Rem}
 use Rattle.filter_lang.specs.declared.term.Sum.{Sum}
-use Rattle.filter_lang.specs.Grammar.{Level, Side, left, unit_place, atom_place, behind_atom, go, next_atom, next_unit, alone, sum_with}
+use Rattle.filter_lang.specs.Grammar.{Level, Side, left, unit_place, atom_place, behind_atom, go, next_atom, next_unit, alone}
 use Rattle.filter_lang.specs.Printed.{atom_text, join_text, steps_text, sum_text}
 use Rattle.filter_lang.specs.Shape.{AtomIsWithin, SumIsWithin}
 use Rattle.filter_lang.proofs.Pieces.{IsStop, atom_token, atom_read, join_read}
@@ -30,6 +30,10 @@ stop_before_steps (s ∷ ss) rest stop = stop_before_join s.0 _ where
 
 abbrev AreSteps : List (Join × Atom) → Type 0
 AreSteps = All (λ s. AtomIsWithin s.1)
+
+-- a sum with one atom more
+abbrev sum_with : Sum → Join → Atom → Sum
+sum_with s j a = record { first = s.first; rest = s.rest ++ (j, a) ∷ [] }
 
 steps_read : (ss : List (Join × Atom)) → AreSteps ss → (acc : Sum) (side : Side) (l : Level) (os : List Level) (rest : List ℕ) → IsStop rest
     → run (kinds 0 (steps_text ss ++ rest)) (behind_atom side acc l os) ≡ run (kinds 0 rest) (behind_atom side (record { first = acc.first; rest = acc.rest ++ ss }) l os)

@@ -12,7 +12,6 @@ use Rattle.filter_lang.specs.declared.error.FilterError.{FilterError}
 use Rattle.filter_lang.specs.declared.error.FilterError.TheVariants.{Syntax, UnknownName, BigNumber, TooDeep}
 use Rattle.filter_lang.specs.declared.term.Atom.{Atom}
 use Rattle.filter_lang.specs.declared.term.Atom.TheVariants.{Fact, Number}
-use Rattle.filter_lang.specs.declared.term.Join.{Join}
 use Rattle.filter_lang.specs.declared.term.Op.{Op}
 use Rattle.filter_lang.specs.declared.term.Sum.{Sum}
 use Rattle.filter_lang.specs.declared.token.Token.{Token}
@@ -25,13 +24,9 @@ shapes_of [] = none
 shapes_of (s ∷ ss) = more s (shapes_of ss)
 
 -- a chain is one node with all its members, and a single member is no chain
-abbrev pub all_of : List Shape → Shape
-all_of (s ∷ []) = s
-all_of ss = AllOf (shapes_of ss)
-
-abbrev pub any_of : List Shape → Shape
-any_of (s ∷ []) = s
-any_of ss = AnyOf (shapes_of ss)
+abbrev pub chain_of : (Shapes → Shape) → List Shape → Shape
+chain_of node (s ∷ []) = s
+chain_of node ss = node (shapes_of ss)
 
 abbrev pub negated : ℕ → Shape → Shape
 negated zero s = s
@@ -47,17 +42,8 @@ pub record Level : Type 0 where
 abbrev pub behind_conjs : List Shape → Level
 behind_conjs cs = record { conjs = cs; units = []; bangs = 0 }
 
-abbrev pub empty_level : Level
-empty_level = behind_conjs []
-
-abbrev pub with_bang : Level → Level
-with_bang l = record { conjs = l.conjs; units = l.units; bangs = suc l.bangs }
-
 abbrev pub with_unit : Shape → Level → Level
 with_unit s l = record { conjs = l.conjs; units = l.units ++ negated l.bangs s ∷ []; bangs = 0 }
-
-abbrev pub with_conj : Level → List Shape
-with_conj l = l.conjs ++ all_of l.units ∷ []
 
 -- how many `!` and `(` stand open in the levels round a place
 abbrev pub opened : List Level → ℕ
@@ -88,12 +74,9 @@ pub data Next : Type 0 where
   done : Shape → Next
   stop : (ℕ → FilterError) → Next
 
--- the sum of one atom, and a sum with one more
+-- the sum of one atom
 abbrev pub alone : Atom → Sum
 alone a = record { first = a; rest = [] }
-
-abbrev pub sum_with : Sum → Join → Atom → Sum
-sum_with s j a = record { first = s.first; rest = s.rest ++ (j, a) ∷ [] }
 
 -- at most 32 constructs are open at a place
 abbrev pub opening : ℕ → Place → Next
@@ -110,18 +93,12 @@ next_atom side f l os _ = stop Syntax
 
 -- where a unit may stand
 abbrev pub next_unit : Level → List Level → Token → Next
-next_unit l os Bang = opening (l.bangs + opened os) (unit_place (with_bang l) os)
-next_unit l os Open = opening (l.bangs + opened os) (unit_place empty_level (l ∷ os))
+next_unit l os Bang = opening (l.bangs + opened os) (unit_place (record l { bangs = suc l.bangs }) os)
+next_unit l os Open = opening (l.bangs + opened os) (unit_place (behind_conjs []) (l ∷ os))
 next_unit l os TrueWord = go (behind_unit (with_unit Always l) os)
 next_unit l os FalseWord = go (behind_unit (with_unit Never l) os)
 next_unit l os NativeWord = go (native_place l os)
 next_unit l os t = next_atom left alone l os t
-
--- where the number of a native filter may stand
-abbrev pub next_native : Level → List Level → Token → Next
-next_native l os (Numeral n) = if nat_lt n 6 then go (behind_unit (with_unit (Ask n) l) os) else stop UnknownName
-next_native l os BigNumeral = stop BigNumber
-next_native l os _ = stop Syntax
 
 -- behind a whole expression, with the levels round it
 abbrev pub behind_expr : Shape → List Level → Token → Next
@@ -132,12 +109,12 @@ behind_expr s os _ = stop Syntax
 -- behind the members of an `||` chain
 abbrev pub behind_conj : List Shape → List Level → Token → Next
 behind_conj cs os Either = go (unit_place (behind_conjs cs) os)
-behind_conj cs os t = behind_expr (any_of cs) os t
+behind_conj cs os t = behind_expr (chain_of AnyOf cs) os t
 
 -- behind a unit
 abbrev pub next_behind : Level → List Level → Token → Next
 next_behind l os Both = go (unit_place l os)
-next_behind l os t = behind_conj (with_conj l) os t
+next_behind l os t = behind_conj (l.conjs ++ chain_of AllOf l.units ∷ []) os t
 
 -- behind a sum that goes no further
 abbrev pub behind_sum : Side → Sum → Level → List Level → Token → Next
@@ -145,16 +122,14 @@ behind_sum left s l os (Compares op) = go (atom_place (right s op) alone l os)
 behind_sum left s l os _ = stop Syntax
 behind_sum (right r op) s l os t = next_behind (with_unit (Compare r op s) l) os t
 
--- behind an atom
-abbrev pub next_in_sum : Side → Sum → Level → List Level → Token → Next
-next_in_sum side s l os (Joins j) = go (atom_place side (sum_with s j) l os)
-next_in_sum side s l os t = behind_sum side s l os t
-
 abbrev pub next : Place → Token → Next
 next (unit_place l os) t = next_unit l os t
-next (native_place l os) t = next_native l os t
+next (native_place l os) (Numeral n) = if nat_lt n 6 then go (behind_unit (with_unit (Ask n) l) os) else stop UnknownName
+next (native_place l os) BigNumeral = stop BigNumber
+next (native_place l os) _ = stop Syntax
 next (atom_place side f l os) t = next_atom side f l os t
-next (behind_atom side s l os) t = next_in_sum side s l os t
+next (behind_atom side s l os) (Joins j) = go (atom_place side (λ a. record s { rest = s.rest ++ (j, a) ∷ [] }) l os)
+next (behind_atom side s l os) t = behind_sum side s l os t
 next (behind_unit l os) t = next_behind l os t
 
 -- goes on at a place, or ends; a refusal is made at the token's offset
@@ -170,7 +145,7 @@ read (t ∷ ts) p = steps (read ts) t.at (next p t.token)
 
 -- where a filter begins
 abbrev pub filter_begin : Place
-filter_begin = unit_place empty_level []
+filter_begin = unit_place (behind_conjs []) []
 
 -- the filter that a text is, or why it is none
 abbrev pub filter : List ℕ → Result Shape FilterError

@@ -7,6 +7,7 @@ ghost use Rattle.std.specs.Option.{option_map, unwrap_or};
 ghost use Rattle.std.specs.Str.{bytes_eq};
 ghost use Rattle.std.specs.Str.Parse.{IsNumeral, digits_value};
 ghost use Rattle.filter_lang.specs.declared.token.Token.TheVariants.{FactName, UnknownWord};
+ghost use Rattle.filter_lang.specs.Lexer.{Finds};
 ghost use Rattle.filter_lang.specs.Tokens.{is_blank, lexeme, fact_names, word_token, name_at, numeral_token, begins_hex, hex_at, dotted_part, last_part, quad_from, decimal_at, number_at, signs, sign_in, token_at};
 
 use crate::term::{Join, Op};
@@ -38,9 +39,7 @@ impl Lexeme {
 #[tactic(auto, unfolding(crate::specs::Tokens::token_at))]
 pub(crate) fn token_at(bytes: &[u8]) -> Lexeme
     requires { 0 < length bytes.now }
-    ensures value { result ≡ token_at bytes.now }
-    ensures some { 0 < result.len }
-    ensures within { result.len ≤ length bytes.now }
+    ensures { Finds token_at bytes.now result }
 {
     if bytes[0].is_ascii_digit() {
         number_at(bytes)
@@ -86,9 +85,7 @@ fn letters(bytes: &[u8]) -> usize
 // The name at the front of the text.
 fn name_at(bytes: &[u8]) -> Lexeme
     requires { 0 < prefix_len is_ascii_lowercase bytes.now }
-    ensures value { result ≡ name_at bytes.now }
-    ensures some { 0 < result.len }
-    ensures within { result.len ≤ length bytes.now }
+    ensures { Finds name_at bytes.now result }
 {
     let len = letters(bytes);
     Lexeme::new(word_token(&bytes[..len]), len)
@@ -142,9 +139,7 @@ fn fact_token(name: &[u8]) -> Token
 // The number, or the dotted address, at the front of the text.
 fn number_at(bytes: &[u8]) -> Lexeme
     requires { 0 < prefix_len is_ascii_digit bytes.now }
-    ensures value { result ≡ number_at bytes.now }
-    ensures some { 0 < result.len }
-    ensures within { result.len ≤ length bytes.now }
+    ensures { Finds number_at bytes.now result }
 {
     if begins_hex(bytes) {
         hex_at(bytes)
@@ -164,9 +159,7 @@ fn begins_hex(bytes: &[u8]) -> bool
 // The hexadecimal number at the front of the text.
 fn hex_at(bytes: &[u8]) -> Lexeme
     requires { IsTrue (begins_hex bytes.now) }
-    ensures value { result ≡ hex_at bytes.now }
-    ensures some { 0 < result.len }
-    ensures within { result.len ≤ length bytes.now }
+    ensures { Finds hex_at bytes.now result }
 {
     let rest = &bytes[2..];
     let len = hex_digits(rest);
@@ -176,9 +169,7 @@ fn hex_at(bytes: &[u8]) -> Lexeme
 // The decimal number, or the dotted address, at the front of the text.
 fn decimal_at(bytes: &[u8]) -> Lexeme
     requires { 0 < prefix_len is_ascii_digit bytes.now }
-    ensures value { result ≡ decimal_at bytes.now }
-    ensures some { 0 < result.len }
-    ensures within { result.len ≤ length bytes.now }
+    ensures { Finds decimal_at bytes.now result }
 {
     let len = digits(bytes);
     if is_dot(bytes, len) {
@@ -225,9 +216,7 @@ fn value(digits: &[u8], radix: u32) -> Option<u64>
 // The dotted address at the front of the text, or a bad token of one byte where there is none.
 fn quad_at(bytes: &[u8]) -> Lexeme
     requires { 0 < length bytes.now }
-    ensures value { result ≡ quad_from 3 0 0 bytes.now }
-    ensures some { 0 < result.len }
-    ensures within { result.len ≤ length bytes.now }
+    ensures { Finds (quad_from 3 0 0) bytes.now result }
 {
     let mut address = 0u32;
     let mut len = 0;
@@ -294,9 +283,7 @@ const SIGNS: &[(&str, Token)] = &[
 // The sign at the front of the text.
 fn sign_at(bytes: &[u8]) -> Lexeme
     requires { 0 < length bytes.now }
-    ensures value { result ≡ sign_in signs bytes.now }
-    ensures some { 0 < result.len }
-    ensures within { result.len ≤ length bytes.now }
+    ensures { Finds (sign_in signs) bytes.now result }
 {
     for &(sign, token) in SIGNS {
         if bytes.starts_with(sign.as_bytes()) {

@@ -4,7 +4,7 @@ ghost use Rattle.std.specs.Prelude.{◌≡◌, ◌≢◌, ◌≤◌, ◌<◌, fa
 ghost use Rattle.filter_lang.specs.Grammar.{filter};
 ghost use Rattle.filter_lang.specs.Lexer.{ahead, later};
 ghost use Rattle.filter_lang.specs.Words.{is_end};
-ghost use Rattle.filter_lang.specs.Parser.{ReadsAtom, RefusesAtom, ReadsSum, RefusesSum, ReadsOp, RefusesOp, ReadsComparison, RefusesComparison, ReadsNative, RefusesNative, ReadsUnit, RefusesUnit, Closes, RefusesClose, ReadsConjunction, RefusesConjunction, ReadsExpr, RefusesExpr};
+ghost use Rattle.filter_lang.specs.Parser.{Parses, ReadsAtom, RefusesAtom, ReadsSum, RefusesSum, ReadsOp, RefusesOp, ReadsComparison, RefusesComparison, ReadsNative, RefusesNative, ReadsUnit, RefusesUnit, Closes, RefusesClose, ReadsConjunction, RefusesConjunction, ReadsExpr, RefusesExpr};
 ghost use Rattle.filter_lang.specs.Shape.{shape, AtomIsWithin, SumIsWithin, IsWithin};
 
 use crate::error::FilterError;
@@ -19,10 +19,7 @@ const MAX_OPEN: u32 = 32;
 
 // An atom.
 fn atom(lexer: &mut Lexer) -> Result<Atom, FilterError>
-    ensures ok { IfOk result (λ a. ReadsAtom lexer.old lexer.new a) }
-    ensures within { IfOk result (λ a. AtomIsWithin a) }
-    ensures err { IfErr result (λ e. RefusesAtom lexer.old e) }
-    ensures left { length (later lexer.new) ≤ length (later lexer.old) }
+    ensures { Parses ReadsAtom RefusesAtom lexer.old lexer.new result }
 {
     let atom = match lexer.token {
         Token::FactName(place) => Atom::Fact(place),
@@ -46,9 +43,7 @@ fn number(n: u64) -> Atom
 
 // The sign, or the word, of a comparison.
 fn operator(lexer: &mut Lexer) -> Result<Op, FilterError>
-    ensures ok { IfOk result (λ op. ReadsOp lexer.old lexer.new op) }
-    ensures err { IfErr result (λ e. RefusesOp lexer.old e) }
-    ensures left { length (later lexer.new) ≤ length (later lexer.old) }
+    ensures { Parses ReadsOp RefusesOp lexer.old lexer.new result }
 {
     let Token::Compares(op) = lexer.token else {
         return Err(FilterError::Syntax(lexer.at));
@@ -59,10 +54,7 @@ fn operator(lexer: &mut Lexer) -> Result<Op, FilterError>
 
 // A sum: atoms, joined from the left. It is read without recursion.
 fn sum(alloc: Global, lexer: &mut Lexer) -> Result<Sum, FilterError>
-    ensures ok { IfOk result (λ s. ReadsSum lexer.old lexer.new s) }
-    ensures within { IfOk result (λ s. SumIsWithin s) }
-    ensures err { IfErr result (λ e. RefusesSum lexer.old e) }
-    ensures left { length (later lexer.new) ≤ length (later lexer.old) }
+    ensures { Parses ReadsSum RefusesSum lexer.old lexer.new result }
 {
     let first = atom(lexer)?;
     let mut rest = StepList::new(alloc);
@@ -76,10 +68,7 @@ fn sum(alloc: Global, lexer: &mut Lexer) -> Result<Sum, FilterError>
 
 // A comparison of two sums.
 fn comparison(alloc: Global, lexer: &mut Lexer) -> Result<Term, FilterError>
-    ensures ok { IfOk result (λ t. ReadsComparison lexer.old lexer.new (shape t)) }
-    ensures within { IfOk result (λ t. IsWithin (shape t)) }
-    ensures err { IfErr result (λ e. RefusesComparison lexer.old e) }
-    ensures left { length (later lexer.new) ≤ length (later lexer.old) }
+    ensures { Parses ReadsComparison RefusesComparison lexer.old lexer.new result }
 {
     let left = sum(alloc, lexer)?;
     let op = operator(lexer)?;
@@ -89,10 +78,7 @@ fn comparison(alloc: Global, lexer: &mut Lexer) -> Result<Term, FilterError>
 
 // The number of a native filter.
 fn native(lexer: &mut Lexer) -> Result<Term, FilterError>
-    ensures ok { IfOk result (λ t. ReadsNative lexer.old lexer.new (shape t)) }
-    ensures within { IfOk result (λ t. IsWithin (shape t)) }
-    ensures err { IfErr result (λ e. RefusesNative lexer.old e) }
-    ensures left { length (later lexer.new) ≤ length (later lexer.old) }
+    ensures { Parses ReadsNative RefusesNative lexer.old lexer.new result }
 {
     let which = match lexer.token {
         Token::Numeral(n) if n < 6 => n as u8,
@@ -108,10 +94,7 @@ fn native(lexer: &mut Lexer) -> Result<Term, FilterError>
 #[cycle(parse)]
 fn unit(alloc: Global, lexer: &mut Lexer, depth: u32) -> Result<Term, FilterError>
     requires { depth ≤ 32 }
-    ensures ok { IfOk result (λ t. ReadsUnit depth lexer.old lexer.new (shape t)) }
-    ensures within { IfOk result (λ t. IsWithin (shape t)) }
-    ensures err { IfErr result (λ e. RefusesUnit depth lexer.old e) }
-    ensures left { length (later lexer.new) ≤ length (later lexer.old) }
+    ensures { Parses (ReadsUnit depth) (RefusesUnit depth) lexer.old lexer.new result }
 {
     match lexer.token {
         Token::Bang => {
@@ -157,9 +140,7 @@ fn enter(lexer: &mut Lexer, depth: u32) -> Result<(), FilterError>
 
 // The `)` behind an expression.
 fn close(lexer: &mut Lexer) -> Result<(), FilterError>
-    ensures ok { OnOk result (Closes lexer.old lexer.new) }
-    ensures err { IfErr result (λ e. RefusesClose lexer.old e) }
-    ensures left { length (later lexer.new) ≤ length (later lexer.old) }
+    ensures { Parses (λ l m _. Closes l m) RefusesClose lexer.old lexer.new result }
 {
     let Token::Close = lexer.token else {
         return Err(FilterError::Syntax(lexer.at));
@@ -172,10 +153,7 @@ fn close(lexer: &mut Lexer) -> Result<(), FilterError>
 #[cycle(parse)]
 fn conjunction(alloc: Global, lexer: &mut Lexer, depth: u32) -> Result<Term, FilterError>
     requires { depth ≤ 32 }
-    ensures ok { IfOk result (λ t. ReadsConjunction depth lexer.old lexer.new (shape t)) }
-    ensures within { IfOk result (λ t. IsWithin (shape t)) }
-    ensures err { IfErr result (λ e. RefusesConjunction depth lexer.old e) }
-    ensures left { length (later lexer.new) ≤ length (later lexer.old) }
+    ensures { Parses (ReadsConjunction depth) (RefusesConjunction depth) lexer.old lexer.new result }
 {
     let first = unit(alloc, lexer, depth)?;
     let Token::Both = lexer.token else {
@@ -195,10 +173,7 @@ fn conjunction(alloc: Global, lexer: &mut Lexer, depth: u32) -> Result<Term, Fil
 #[cycle(parse)]
 fn expr(alloc: Global, lexer: &mut Lexer, depth: u32) -> Result<Term, FilterError>
     requires { depth ≤ 32 }
-    ensures ok { IfOk result (λ t. ReadsExpr depth lexer.old lexer.new (shape t)) }
-    ensures within { IfOk result (λ t. IsWithin (shape t)) }
-    ensures err { IfErr result (λ e. RefusesExpr depth lexer.old e) }
-    ensures left { length (later lexer.new) ≤ length (later lexer.old) }
+    ensures { Parses (ReadsExpr depth) (RefusesExpr depth) lexer.old lexer.new result }
 {
     let first = conjunction(alloc, lexer, depth)?;
     let Token::Either = lexer.token else {

@@ -6,6 +6,6 @@ pub either-way : {A E X : Type 0} (P : X → Type 0) (r : Result A E) (new made 
 either-way P (Ok a) new made old ok err p q = subst P (sym ok) p
 either-way P (Err e) new made old ok err p q = subst P (sym err) q
 
-pub ok-weaker : {A E : Type 0} (P Q : A → Type 0) (r : Result A E) → ((a : A) → P a → Q a) → IfOk r P → IfOk r Q
-ok-weaker P Q (Ok a) h p = h a p
-ok-weaker P Q (Err e) h p = p
+pub ok-both : {A E : Type 0} (P Q R : A → Type 0) (r : Result A E) → ((a : A) → P a → Q a → R a) → IfOk r P → IfOk r Q → IfOk r R
+ok-both P Q R (Ok a) h p q = h a p q
+ok-both P Q R (Err e) h p q = p

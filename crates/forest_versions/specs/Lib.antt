@@ -1,5 +1,6 @@
 pub mod Rules
 pub mod State
+pub mod Changes
 pub mod Lawful
 pub mod Sound
 pub mod StateCode

@@ -1,6 +1,6 @@
 //! What is in force for the connections that begin now.
 
-ghost use Rattle.std.specs.Prelude.{◌≡◌, ◌≤◌, ◌++◌, [], ◌∷◌, List, IsTrue, IfOk, OnOk, OnErr, Some, None};
+ghost use Rattle.std.specs.Prelude.{◌≡◌, ◌≤◌, ◌++◌, [], ◌∷◌, List, IsTrue, IfOk, Some, None};
 ghost use Rattle.std.specs.Option.{option_copied};
 ghost use Rattle.std.specs.List.{All};
 ghost use Rattle.app_api.specs.Reg.{are_presets, reg_of, peek_fits};
@@ -12,6 +12,7 @@ ghost use Rattle.event_trees.specs.Private.{IsPrivate, without};
 ghost use Rattle.forest_versions.specs.Rules.{rule_of, put_rule, without_rule};
 ghost use Rattle.forest_versions.specs.State.{presets_in, start, after, registered, withdrawn};
 ghost use Rattle.forest_versions.specs.Lawful.{refusal, is_lawful, is_setting, IsRegistrable};
+ghost use Rattle.forest_versions.specs.Changes.{ChangesTo};
 ghost use Rattle.forest_versions.specs.Sound.{IsSound};
 
 use crate::checks::{event_refusal, find_reg, missing, reg_refusal, taken};
@@ -101,8 +102,7 @@ impl Control {
     /// Gives a lawful command. An error is want of memory, and changes nothing.
     pub fn apply(&mut self, alloc: Global, c: &Command) -> Result<(), AllocError>
         requires lawful { IsTrue (is_lawful self.old c.now) }
-        ensures ok { OnOk result (self.new ≡ after self.old c.now) }
-        ensures err { OnErr result (self.new ≡ self.old) }
+        ensures { ChangesTo self.old self.new (after self.old c.now) result }
     {
         match c {
             Command::Event(d) => self.define(alloc, d),
@@ -185,11 +185,10 @@ impl Control {
     /// Defines an event. Trees stay as they are.
     pub(crate) fn define(&mut self, alloc: Global, d: &EventDef) -> Result<(), AllocError>
         requires { IsAddable self.old.defs d.now }
-        ensures ok { OnOk result (self.new ≡ record self.old { defs = self.old.defs ++ d.now ∷ [] }) }
+        ensures made { ChangesTo self.old self.new (record self.old { defs = self.old.defs ++ d.now ∷ [] }) result }
         ensures trees { (list : List RegOf) (shown : List Shown)
             → IsForestOf self.old.defs list shown → IsForestOf self.new.defs list shown }
         ensures regs { self.new.regs ≡ self.old.regs }
-        ensures err { OnErr result (self.new ≡ self.old) }
     {
         let filter = d.filter.copy(alloc)?;
         self.defs.add(EventDef {
@@ -205,8 +204,7 @@ impl Control {
     /// Adds a registration at its place.
     pub(crate) fn register(&mut self, r: &Reg) -> Result<(), AllocError>
         requires { IsRegistrable self.old r.now }
-        ensures ok { OnOk result (self.new ≡ registered self.old r.now) }
-        ensures err { OnErr result (self.new ≡ self.old) }
+        ensures { ChangesTo self.old self.new (registered self.old r.now) result }
     {
         switch(&self.defs, &mut self.regs, r, true)
     }
@@ -223,10 +221,9 @@ impl Control {
     pub(crate) fn set(&mut self, c: &Command) -> Result<(), AllocError>
         requires lawful { IsTrue (is_lawful self.old c.now) }
         requires setting { IsTrue (is_setting c.now) }
-        ensures ok { OnOk result (self.new ≡ after self.old c.now) }
+        ensures made { ChangesTo self.old self.new (after self.old c.now) result }
         ensures defs { self.new.defs ≡ self.old.defs }
         ensures regs { self.new.regs ≡ self.old.regs }
-        ensures err { OnErr result (self.new ≡ self.old) }
     {
         match c {
             Command::Buffer(bytes) => {
@@ -267,8 +264,7 @@ impl Control {
     fn add_rule(&mut self, rule: &Rule) -> Result<(), AllocError>
         requires low { 1 ≤ rule.now.number }
         requires absent { rule_of self.old.rules rule.now.number ≡ None }
-        ensures ok { OnOk result (self.new ≡ record self.old { rules = put_rule rule.now self.old.rules }) }
-        ensures err { OnErr result (self.new ≡ self.old) }
+        ensures { ChangesTo self.old self.new (record self.old { rules = put_rule rule.now self.old.rules }) result }
     {
         self.rules.put(*rule)
     }

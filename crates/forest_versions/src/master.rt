@@ -6,10 +6,11 @@ ghost use Rattle.std.specs.Option.{option_copied};
 ghost use Rattle.app_api.specs.declared.registration.Reg.{Reg as RegOf};
 ghost use Rattle.app_api.specs.App.{are_rules};
 ghost use Rattle.app_api.specs.Reg.{are_presets, peek_fits, reg_of};
-ghost use Rattle.shared_forest.specs.Store.{Keeps, CountsAtMost};
+ghost use Rattle.event_trees.specs.Stored.{Stores};
 ghost use Rattle.event_trees.specs.Defs.{is_event};
 ghost use Rattle.forest_versions.specs.declared.command.Command.{Command as CommandOf};
-ghost use Rattle.forest_versions.specs.State.{ControlState, IsTreeFor, after, is_idle_limit};
+ghost use Rattle.forest_versions.specs.Changes.{ChangesTo, HoldsTree};
+ghost use Rattle.forest_versions.specs.State.{ControlState, after, is_idle_limit};
 ghost use Rattle.forest_versions.specs.Lawful.{is_lawful};
 ghost use Rattle.forest_versions.specs.Past.{line_of, noted, AreBefore};
 ghost use Rattle.forest_versions.specs.Timeline.{as_of};
@@ -60,9 +61,7 @@ impl Master {
         ensures stands { IfOk result (λ m. StandsFor m presets.now []) }
         ensures answered { IfOk result (λ m. F.answered f.new m.forest) }
         ensures forest { IfOk result (HasForest (F.content f.new)) }
-        ensures kept { Keeps F.answered F.content f.old f.new }
-        ensures counted { CountsAtMost (F.interns f.old) (F.interns f.new) }
-        ensures err { OnErr result (f.new ≡ f.old) }
+        ensures stored { Stores F.ForestView f.old f.new result }
     {
         let control = Control::start(alloc, presets)?;
         control.sound();
@@ -96,10 +95,8 @@ impl Master {
             → Tells self.old v s → Tells self.new v s }
         ensures answered { F.answered f.new self.new.forest }
         ensures forest { HasForest (F.content f.new) self.new }
-        ensures kept { Keeps F.answered F.content f.old f.new }
-        ensures counted { CountsAtMost (F.interns f.old) (F.interns f.new) }
+        ensures stored { Stores F.ForestView f.old f.new result }
         ensures unchanged { OnErr result (self.new ≡ self.old) }
-        ensures store_unchanged { OnErr result (f.new ≡ f.old) }
     {
         let next = self.version + 1;
         give(
@@ -226,21 +223,15 @@ fn give<F: Forests>(
     from: u32,
     c: &Command,
 ) -> Result<(), AllocError>
-    requires answered { F.answered f.old forest.old }
-    requires forest { IsTreeFor control.old (F.content f.old forest.old) }
+    requires held { HoldsTree F.ForestView f.old control.old forest.old }
     requires lawful { IsTrue (is_lawful control.old c.now) }
     requires before { AreBefore past.old from }
-    ensures now { OnOk result (control.new ≡ after control.old c.now) }
-    ensures past { OnOk result (past.new ≡ noted from control.old.rules c.now past.old) }
+    ensures made { ChangesTo control.old control.new (after control.old c.now) result }
+    ensures noted { ChangesTo past.old past.new (noted from control.old.rules c.now past.old) result }
     ensures whole { length past.old.regs ≡ 256 }
-    ensures answered { F.answered f.new forest.new }
-    ensures forest { IsTreeFor control.new (F.content f.new forest.new) }
-    ensures kept { Keeps F.answered F.content f.old f.new }
-    ensures counted { CountsAtMost (F.interns f.old) (F.interns f.new) }
-    ensures control_unchanged { OnErr result (control.new ≡ control.old) }
-    ensures past_unchanged { OnErr result (past.new ≡ past.old) }
-    ensures tree_unchanged { OnErr result (forest.new ≡ forest.old) }
-    ensures store_unchanged { OnErr result (f.new ≡ f.old) }
+    ensures held { HoldsTree F.ForestView f.new control.new forest.new }
+    ensures stored { Stores F.ForestView f.old f.new result }
+    ensures tree { OnErr result (forest.new ≡ forest.old) }
 {
     past.whole();
     past.note(alloc, from, control.rules(), c)?;

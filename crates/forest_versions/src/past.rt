@@ -2,9 +2,10 @@
 //! rules and the limit of idleness. A command adds one change, so the past takes memory by the number of commands; but rules are kept as whole
 //! lists, since they are lent as such.
 
-ghost use Rattle.std.specs.Prelude.{◌≡◌, ◌≤◌, ℕ, Option, length, slice_index_or, IfOk, OnOk, OnErr};
+ghost use Rattle.std.specs.Prelude.{◌≡◌, ◌≤◌, ℕ, Option, length, slice_index_or, IfOk};
 ghost use Rattle.std.specs.Option.{option_copied};
 ghost use Rattle.app_api.specs.Reg.{reg_of};
+ghost use Rattle.forest_versions.specs.Changes.{ChangesTo};
 ghost use Rattle.forest_versions.specs.State.{ControlState};
 ghost use Rattle.forest_versions.specs.Timeline.{Line, as_of, unchanged, TakesBack, IsBefore};
 ghost use Rattle.forest_versions.specs.Past.{PastLines, line_of, never, with_reg, noted, AreBefore, IsPastOf};
@@ -113,8 +114,7 @@ impl Past {
         c: &Command,
     ) -> Result<(), AllocError>
         requires { AreBefore self.old from }
-        ensures ok { OnOk result (self.new ≡ noted from rules.now c.now self.old) }
-        ensures err { OnErr result (self.new ≡ self.old) }
+        ensures { ChangesTo self.old self.new (noted from rules.now c.now self.old) result }
     {
         match c {
             Command::Event(_) => Ok(()),
@@ -155,8 +155,7 @@ impl Past {
 
     fn note_reg(&mut self, from: u32, number: u8, reg: Option<Reg>) -> Result<(), AllocError>
         requires { IsBefore (line_of self.old number) from }
-        ensures ok { OnOk result (self.new ≡ with_reg self.old number from reg) }
-        ensures err { OnErr result (self.new ≡ self.old) }
+        ensures { ChangesTo self.old self.new (with_reg self.old number from reg) result }
     {
         let line = &mut self.regs[usize::from(number)];
         line.step(from, reg)

@@ -1,7 +1,8 @@
 //! The rules for applications, by number.
 
-ghost use Rattle.std.specs.Prelude.{◌≡◌, ◌≤◌, ◌++◌, [], ◌∷◌, length, take, drop, IfOk, OnOk, OnErr};
+ghost use Rattle.std.specs.Prelude.{◌≡◌, ◌≤◌, ◌++◌, [], ◌∷◌, length, take, drop, IfOk};
 ghost use Rattle.std.specs.Option.{option_copied};
+ghost use Rattle.forest_versions.specs.Changes.{ChangesTo};
 ghost use Rattle.forest_versions.specs.Rules.{rule_of, put_rule, without_rule};
 
 use app_api::Rule;
@@ -51,8 +52,7 @@ impl RuleList {
 
     /// Adds a rule at its place. An error is want of memory, and changes nothing.
     pub(crate) fn put(&mut self, rule: Rule) -> Result<(), AllocError>
-        ensures ok { OnOk result (self.new ≡ put_rule rule self.old) }
-        ensures err { OnErr result (self.new ≡ self.old) }
+        ensures { ChangesTo self.old self.new (put_rule rule self.old) result }
     {
         let place = place_in(&self.items, rule);
         self.items.insert(place, rule)?;

@@ -1,6 +1,7 @@
 //! A value that changes with the versions, and is known at each of them.
 
-ghost use Rattle.std.specs.Prelude.{◌≡◌, OnOk, OnErr};
+ghost use Rattle.std.specs.Prelude.{◌≡◌};
+ghost use Rattle.forest_versions.specs.Changes.{ChangesTo};
 ghost use Rattle.forest_versions.specs.Timeline.{as_of, unchanged, stepped, TakesBack, IsBefore};
 
 use std::alloc::{AllocError, Global};
@@ -67,8 +68,7 @@ impl<T: Drop> Timeline<T> {
     /// and changes nothing.
     pub(crate) fn step(&mut self, from: u32, value: T) -> Result<(), AllocError>
         requires { IsBefore self.old from }
-        ensures ok { OnOk result (self.new ≡ stepped self.old from value) }
-        ensures err { OnErr result (self.new ≡ self.old) }
+        ensures { ChangesTo self.old self.new (stepped self.old from value) result }
     {
         self.steps.push((from, value))?;
         Ok(())

@@ -1,11 +1,12 @@
 //! The tree of the registrations that are on, as commands change them.
 
-ghost use Rattle.std.specs.Prelude.{◌≡◌, List, IsTrue, IfSome, IfNone, IfOk, OnOk, OnErr, [], true, false, Some, length};
+ghost use Rattle.std.specs.Prelude.{◌≡◌, List, IsTrue, IfSome, IfNone, IfOk, OnErr, [], true, false, Some, length};
 ghost use Rattle.std.specs.List.{filter};
 ghost use Rattle.app_api.specs.declared.registration.Reg.{Reg as RegOf};
 ghost use Rattle.app_api.specs.Reg.{reg_of};
-ghost use Rattle.shared_forest.specs.Store.{Keeps, CountsAtMost};
-ghost use Rattle.forest_versions.specs.State.{IsTreeFor, after, registered, withdrawn};
+ghost use Rattle.event_trees.specs.Stored.{Stores};
+ghost use Rattle.forest_versions.specs.Changes.{ChangesTo, HoldsTree};
+ghost use Rattle.forest_versions.specs.State.{after, registered, withdrawn};
 ghost use Rattle.forest_versions.specs.Lawful.{is_lawful, IsRegistrable};
 
 use crate::checks::find_reg;
@@ -22,11 +23,8 @@ pub(crate) fn first_tree<F: Forests>(
     f: &mut F,
     control: &Control,
 ) -> Result<Shared, AllocError>
-    ensures answered { IfOk result (λ s. F.answered f.new s) }
-    ensures forest { IfOk result (λ s. IsTreeFor control.now (F.content f.new s)) }
-    ensures kept { Keeps F.answered F.content f.old f.new }
-    ensures counted { CountsAtMost (F.interns f.old) (F.interns f.new) }
-    ensures err { OnErr result (f.new ≡ f.old) }
+    ensures held { IfOk result (λ s. HoldsTree F.ForestView f.new control.now s) }
+    ensures stored { Stores F.ForestView f.old f.new result }
 {
     control.sound();
     let list = active_regs(alloc, control.regs())?;
@@ -41,17 +39,12 @@ pub(crate) fn change<F: Forests>(
     forest: &mut Shared,
     c: &Command,
 ) -> Result<(), AllocError>
-    requires answered { F.answered f.old forest.old }
-    requires forest { IsTreeFor control.old (F.content f.old forest.old) }
+    requires held { HoldsTree F.ForestView f.old control.old forest.old }
     requires lawful { IsTrue (is_lawful control.old c.now) }
-    ensures ok { OnOk result (control.new ≡ after control.old c.now) }
-    ensures answered { F.answered f.new forest.new }
-    ensures forest { IsTreeFor control.new (F.content f.new forest.new) }
-    ensures kept { Keeps F.answered F.content f.old f.new }
-    ensures counted { CountsAtMost (F.interns f.old) (F.interns f.new) }
-    ensures control { OnErr result (control.new ≡ control.old) }
+    ensures made { ChangesTo control.old control.new (after control.old c.now) result }
+    ensures held { HoldsTree F.ForestView f.new control.new forest.new }
+    ensures stored { Stores F.ForestView f.old f.new result }
     ensures tree { OnErr result (forest.new ≡ forest.old) }
-    ensures store { OnErr result (f.new ≡ f.old) }
 {
     match c {
         Command::Event(d) => control.define(alloc, d),
@@ -73,17 +66,12 @@ fn register<F: Forests>(
     forest: &mut Shared,
     r: &Reg,
 ) -> Result<(), AllocError>
-    requires answered { F.answered f.old forest.old }
-    requires forest { IsTreeFor control.old (F.content f.old forest.old) }
+    requires held { HoldsTree F.ForestView f.old control.old forest.old }
     requires fits { IsRegistrable control.old r.now }
-    ensures ok { OnOk result (control.new ≡ registered control.old r.now) }
-    ensures answered { F.answered f.new forest.new }
-    ensures forest { IsTreeFor control.new (F.content f.new forest.new) }
-    ensures kept { Keeps F.answered F.content f.old f.new }
-    ensures counted { CountsAtMost (F.interns f.old) (F.interns f.new) }
-    ensures control { OnErr result (control.new ≡ control.old) }
+    ensures made { ChangesTo control.old control.new (registered control.old r.now) result }
+    ensures held { HoldsTree F.ForestView f.new control.new forest.new }
+    ensures stored { Stores F.ForestView f.old f.new result }
     ensures tree { OnErr result (forest.new ≡ forest.old) }
-    ensures store { OnErr result (f.new ≡ f.old) }
 {
     control.sound();
     control.register(r)?;
@@ -110,16 +98,11 @@ fn withdraw<F: Forests>(
     forest: &mut Shared,
     number: u8,
 ) -> Result<(), AllocError>
-    requires answered { F.answered f.old forest.old }
-    requires forest { IsTreeFor control.old (F.content f.old forest.old) }
-    ensures ok { OnOk result (control.new ≡ withdrawn control.old number) }
-    ensures answered { F.answered f.new forest.new }
-    ensures forest { IsTreeFor control.new (F.content f.new forest.new) }
-    ensures kept { Keeps F.answered F.content f.old f.new }
-    ensures counted { CountsAtMost (F.interns f.old) (F.interns f.new) }
-    ensures control { OnErr result (control.new ≡ control.old) }
+    requires held { HoldsTree F.ForestView f.old control.old forest.old }
+    ensures made { ChangesTo control.old control.new (withdrawn control.old number) result }
+    ensures held { HoldsTree F.ForestView f.new control.new forest.new }
+    ensures stored { Stores F.ForestView f.old f.new result }
     ensures tree { OnErr result (forest.new ≡ forest.old) }
-    ensures store { OnErr result (f.new ≡ f.old) }
 {
     control.sound();
     match find_on(control.regs(), number) {

@@ -98,4 +98,4 @@ returns-clause-made g c = λ s force.
     alters_edit s c.args.change r list (active_in at new) (g.F.ForestView.interns c.args.forests.now) (g.F.ForestView.interns c.edit.new.f)
     found so
     (names ∙ later.edited s.defs list earlier private r c.args.change.on (event_found s.defs s.regs c.args.change.reg r force.sound.private found))
-    c.edit.ensures.counted
+    c.edit.ensures.stored.counted

@@ -17,15 +17,19 @@ use Rattle.event_trees.proofs.forest.edit.Goals as goal
 abbrev Shown_list : Type 0
 Shown_list = List Shown
 
-pub tree_switched-requires-clause-short : goal.tree_switched-requires-clause-short
-tree_switched-requires-clause-short g c =
-    subst (λ (t : TreeLists). AreShort (listing t)) (sym c.tree_of.ensures)
-    (edit-short c.args.defs.now c.requires.forest.0 (listing (g.F.ForestView.content c.args.f.now c.args.tree.now)) c.place-placed.ensures.defs c.requires.forest.1)
-
-pub tree_switched-requires-clause-canon : goal.tree_switched-requires-clause-canon
-tree_switched-requires-clause-canon g c =
-    subst (λ (t : TreeLists). listing t ≡ canon_of (read_off (listing t))) (sym c.tree_of.ensures)
-    (edit-canon c.args.defs.now c.requires.forest.0 (listing (g.F.ForestView.content c.args.f.now c.args.tree.now)) c.requires.forest.1)
+pub tree_switched-requires-clause-listed : goal.tree_switched-requires-clause-listed
+tree_switched-requires-clause-listed g c = record {
+  short = subst (λ (t : TreeLists). AreShort (listing t)) (sym c.tree_of.ensures)
+      (edit-short c.args.defs.now c.requires.forest.0 (listing (g.F.ForestView.content c.args.f.now c.args.tree.now)) c.place-placed.ensures.defs c.requires.forest.1);
+  canon = subst (λ (t : TreeLists). listing t ≡ canon_of (read_off (listing t))) (sym c.tree_of.ensures)
+      (edit-canon c.args.defs.now c.requires.forest.0 (listing (g.F.ForestView.content c.args.f.now c.args.tree.now)) c.requires.forest.1);
+  order = subst (λ (t : TreeLists). IsStrictlySortedBy placed_cmp (read_off (listing t))) (sym c.tree_of.ensures)
+      (old-order c.args.defs.now c.requires.forest.0 (listing (g.F.ForestView.content c.args.f.now c.args.tree.now)) c.requires.forest.1);
+  distinct = subst (λ (t : TreeLists). IsDistinct eqb (map (λ r. r.slot.number) (read_off (listing t)))) (sym c.tree_of.ensures)
+      (old-distinct c.args.defs.now c.requires.forest.0 (listing (g.F.ForestView.content c.args.f.now c.args.tree.now)) c.requires.forest.1);
+  few = subst (λ (t : TreeLists). length (read_off (listing t)) ≤ 255) (sym c.tree_of.ensures)
+      (old-few c.args.defs.now c.requires.forest.0 (listing (g.F.ForestView.content c.args.f.now c.args.tree.now)) c.requires.forest.1);
+}
 
 pub tree_switched-requires-clause-new_order : goal.tree_switched-requires-clause-new_order
 tree_switched-requires-clause-new_order g c =
@@ -48,21 +52,6 @@ tree_switched-requires-clause-new_few g c =
     (edit-few c.args.defs.now (edited c.args.defs.now list c.args.reg.now c.args.on)
     (switched (seen c.place-placed.result) c.args.on (read_off shown)) private
     (edit-list c.args.defs.now list shown c.args.reg.now c.args.on (seen c.place-placed.result) c.requires.forest.1 c.place-placed.ensures.placed))
-
-pub tree_switched-requires-clause-order : goal.tree_switched-requires-clause-order
-tree_switched-requires-clause-order g c =
-    subst (λ (t : TreeLists). IsStrictlySortedBy placed_cmp (read_off (listing t))) (sym c.tree_of.ensures)
-    (old-order c.args.defs.now c.requires.forest.0 (listing (g.F.ForestView.content c.args.f.now c.args.tree.now)) c.requires.forest.1)
-
-pub tree_switched-requires-clause-few : goal.tree_switched-requires-clause-few
-tree_switched-requires-clause-few g c =
-    subst (λ (t : TreeLists). length (read_off (listing t)) ≤ 255) (sym c.tree_of.ensures)
-    (old-few c.args.defs.now c.requires.forest.0 (listing (g.F.ForestView.content c.args.f.now c.args.tree.now)) c.requires.forest.1)
-
-pub tree_switched-requires-clause-distinct : goal.tree_switched-requires-clause-distinct
-tree_switched-requires-clause-distinct g c =
-    subst (λ (t : TreeLists). IsDistinct eqb (map (λ r. r.slot.number) (read_off (listing t)))) (sym c.tree_of.ensures)
-    (old-distinct c.args.defs.now c.requires.forest.0 (listing (g.F.ForestView.content c.args.f.now c.args.tree.now)) c.requires.forest.1)
 
 pub tree_switched-requires-clause-there : goal.tree_switched-requires-clause-there
 tree_switched-requires-clause-there g c = λ off.

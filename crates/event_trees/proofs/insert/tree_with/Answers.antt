@@ -28,7 +28,7 @@ pub nodes_with-requires-clause-raise : goal.nodes_with-requires-clause-raise
 nodes_with-requires-clause-raise c =
     all-raise c.nodes-nodes.result.now c.slots-slots.result.now (same-tree c.args.tree.now.nodes c.nodes-nodes.result.now c.args.tree.now.slots
     c.slots-slots.result.now c.nodes-nodes.ensures.nodes c.slots-slots.ensures.slots c.nodes-nodes.ensures.tree)
-    (omega (arith, c.requires.few, ap length c.nodes-nodes.ensures.nodes, size-nodes c.args.tree.now.nodes c.args.tree.now.slots c.requires.canon c.requires.short))
+    (omega (arith, c.requires.few, ap length c.nodes-nodes.ensures.nodes, size-nodes c.args.tree.now.nodes c.args.tree.now.slots c.requires.listed.canon c.requires.listed.short))
 
 pub nodes_with-requires-clause-room : goal.nodes_with-requires-clause-room
 nodes_with-requires-clause-room c =
@@ -71,7 +71,7 @@ new-requires c =
     (tree-made c.args.tree.now.nodes c.nodes-nodes.result.now c.args.tree.now.slots c.slots-slots.result.now (seen c.args.reg.now)
     c.events-path.result.now c.reach_of-reach.result.node c.reach_of-reach.result.depth _ c.slot_place-place.result
     (record { event = 0; depth = 0; below = 0; first = 0; count = 0 }) c.in_ok-more.more.items c.in_ok-all.all.items c.nodes-nodes.ensures.nodes
-    c.slots-slots.ensures.slots c.events-path.ensures.events c.nodes-nodes.ensures.tree c.requires.canon c.requires.order c.reach_of-reach.ensures
+    c.slots-slots.ensures.slots c.events-path.ensures.events c.nodes-nodes.ensures.tree c.requires.listed.canon c.requires.order c.reach_of-reach.ensures
     c.slot_place-place.ensures refl c.in_ok-more.ensures c.in_ok-all.ensures).tree
 
 pub returns : goal.returns
@@ -80,6 +80,6 @@ returns c =
     tree-made c.args.tree.now.nodes c.nodes-nodes.result.now c.args.tree.now.slots c.slots-slots.result.now (seen c.args.reg.now)
     c.events-path.result.now c.reach_of-reach.result.node c.reach_of-reach.result.depth _ c.slot_place-place.result
     (record { event = 0; depth = 0; below = 0; first = 0; count = 0 }) c.in_ok-more.more.items c.in_ok-all.all.items c.nodes-nodes.ensures.nodes
-    c.slots-slots.ensures.slots c.events-path.ensures.events c.nodes-nodes.ensures.tree c.requires.canon c.requires.order c.reach_of-reach.ensures
+    c.slots-slots.ensures.slots c.events-path.ensures.events c.nodes-nodes.ensures.tree c.requires.listed.canon c.requires.order c.reach_of-reach.ensures
     c.slot_place-place.ensures refl c.in_ok-more.ensures c.in_ok-all.ensures in
     ap (λ (l : List Node). listing_of l c.new.result.slots) c.new.ensures.nodes ∙ (ap (λ (l : List Slot). listing_of c.in_ok-more.more.items l) c.new.ensures.slots ∙ made.listed)

@@ -27,13 +27,13 @@ slots_without-requires c = omega (
 )
 
 pub nodes_without-requires-clause-few : goal.nodes_without-requires-clause-few
-nodes_without-requires-clause-few c = omega (arith, c.requires.few, ap length c.nodes-nodes.ensures.nodes, size-nodes c.args.tree.now.nodes c.args.tree.now.slots c.requires.canon c.requires.short)
+nodes_without-requires-clause-few c = omega (arith, c.requires.listed.few, ap length c.nodes-nodes.ensures.nodes, size-nodes c.args.tree.now.nodes c.args.tree.now.slots c.requires.listed.canon c.requires.listed.short)
 
 pub new-requires : goal.new-requires
 new-requires c =
     (removed-made c.args.tree.now.nodes c.nodes-nodes.result.now c.args.tree.now.slots c.slots-slots.result.now c.place_of-place.result
     c.owner_of-end.result c.kept_before-keep.result c.args.number c.in_ok-fewer.fewer.items c.in_ok-rest.rest.items c.nodes-nodes.ensures.nodes
-    c.slots-slots.ensures.slots c.nodes-nodes.ensures.tree c.requires.canon c.requires.order c.requires.distinct c.requires.there
+    c.slots-slots.ensures.slots c.nodes-nodes.ensures.tree c.requires.listed.canon c.requires.listed.order c.requires.listed.distinct c.requires.there
     c.place_of-place.ensures (place-there c.args.number c.args.tree.now.slots (read_off (listing_of c.args.tree.now.nodes c.args.tree.now.slots))
     c.place_of-place.result (slots-tree c.args.tree.now.nodes c.args.tree.now.slots c.slots-slots.ensures.tree)
     (subst (λ (l : List Slot). IsPlaceOf c.args.number l c.place_of-place.result) c.slots-slots.ensures.slots c.place_of-place.ensures)
@@ -44,7 +44,7 @@ returns c =
     let made : Removed c.in_ok-fewer.fewer.items c.in_ok-rest.rest.items c.args.number (read_off (listing_of c.args.tree.now.nodes c.args.tree.now.slots)) =
     removed-made c.args.tree.now.nodes c.nodes-nodes.result.now c.args.tree.now.slots c.slots-slots.result.now c.place_of-place.result
     c.owner_of-end.result c.kept_before-keep.result c.args.number c.in_ok-fewer.fewer.items c.in_ok-rest.rest.items c.nodes-nodes.ensures.nodes
-    c.slots-slots.ensures.slots c.nodes-nodes.ensures.tree c.requires.canon c.requires.order c.requires.distinct c.requires.there
+    c.slots-slots.ensures.slots c.nodes-nodes.ensures.tree c.requires.listed.canon c.requires.listed.order c.requires.listed.distinct c.requires.there
     c.place_of-place.ensures (place-there c.args.number c.args.tree.now.slots (read_off (listing_of c.args.tree.now.nodes c.args.tree.now.slots))
     c.place_of-place.result (slots-tree c.args.tree.now.nodes c.args.tree.now.slots c.slots-slots.ensures.tree)
     (subst (λ (l : List Slot). IsPlaceOf c.args.number l c.place_of-place.result) c.slots-slots.ensures.slots c.place_of-place.ensures)

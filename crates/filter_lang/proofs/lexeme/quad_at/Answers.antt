@@ -4,13 +4,18 @@ use Rattle.filter_lang.specs.Tokens.{quad_from, dotted_part, last_part}
 use Rattle.filter_lang.proofs.Quads.{quad_from-part, quad_from-last, fits_step, from_offset}
 use Rattle.filter_lang.proofs.lexeme.quad_at.Goals as goal
 
-pub returns-in_default-clause-value : goal.returns-in_default-clause-value
-returns-in_default-clause-value c =
+pub returns-in_default : goal.returns-in_default
+returns-in_default c =
     let l = c.loop-part in
     let bs = c.args.bytes.now in
     let left : 3 - l._part ≡ suc (3 - (l._part + 1)) = omega arith in
     let found = c.in_default.ensures.value ∙ ap dotted_part (from_offset bs l.len) in
-    c.new.ensures ∙ sym (quad_from-part (3 - (l._part + 1)) l.address l.len _ _ found) ∙ ap (λ k. quad_from k l.address l.len (drop l.len bs)) (sym left) ∙ l.invariant.same
+    let one = ap (λ x. x.len) c.new.ensures in
+    record {
+      value = c.new.ensures ∙ sym (quad_from-part (3 - (l._part + 1)) l.address l.len _ _ found) ∙ ap (λ k. quad_from k l.address l.len (drop l.len bs)) (sym left) ∙ l.invariant.same;
+      some = omega arith;
+      within = omega (arith, c.requires);
+    }
 
 pub overflow_mul-address : goal.overflow_mul-address
 overflow_mul-address c =
@@ -53,18 +58,28 @@ overflow_add-address-in-Some-last_part c =
     let small : l.address < 256 ^ 3 = subst (λ i. l.address < 256 ^ i) last l.invariant.fits in
     omega (arith, c.in-Some-last_part.ensures.small)
 
-pub returns-in-Some-last_part-clause-value : goal.returns-in-Some-last_part-clause-value
-returns-in-Some-last_part-clause-value c =
+pub returns-in-Some-last_part : goal.returns-in-Some-last_part
+returns-in-Some-last_part c =
     let l = c.loop-part in
     let bs = c.args.bytes.now in
     let left : 3 - l._part ≡ 0 = omega arith in
     let found = c.in-Some-last_part.ensures.value ∙ ap last_part (from_offset bs l.len) in
-    c.new-in-Some-last_part.ensures ∙ sym (quad_from-last l.address l.len _ _ found) ∙ ap (λ k. quad_from k l.address l.len (drop l.len bs)) (sym left) ∙ l.invariant.same
+    let whole = ap (λ x. x.len) c.new-in-Some-last_part.ensures in
+    record {
+      value = c.new-in-Some-last_part.ensures ∙ sym (quad_from-last l.address l.len _ _ found) ∙ ap (λ k. quad_from k l.address l.len (drop l.len bs)) (sym left) ∙ l.invariant.same;
+      some = omega (arith, l.invariant.some);
+      within = omega (arith, c.in-Some-last_part.ensures.within, length-drop l.len bs);
+    }
 
-pub returns-in-None-clause-value : goal.returns-in-None-clause-value
-returns-in-None-clause-value c =
+pub returns-in-None : goal.returns-in-None
+returns-in-None c =
     let l = c.loop-part in
     let bs = c.args.bytes.now in
     let left : 3 - l._part ≡ 0 = omega arith in
     let found = c.in-None.ensures.value ∙ ap last_part (from_offset bs l.len) in
-    c.new-in-None.ensures ∙ sym (quad_from-last l.address l.len _ _ found) ∙ ap (λ k. quad_from k l.address l.len (drop l.len bs)) (sym left) ∙ l.invariant.same
+    let one = ap (λ x. x.len) c.new-in-None.ensures in
+    record {
+      value = c.new-in-None.ensures ∙ sym (quad_from-last l.address l.len _ _ found) ∙ ap (λ k. quad_from k l.address l.len (drop l.len bs)) (sym left) ∙ l.invariant.same;
+      some = omega arith;
+      within = omega (arith, c.requires);
+    }

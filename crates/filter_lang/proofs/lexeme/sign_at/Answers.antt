@@ -28,17 +28,13 @@ sign_some i [] h lt = absurd (omega arith)
 sign_some zero (row ∷ rows) h lt = let some = h.0.0 in grind (arith, nat_tests)
 sign_some (suc i) (row ∷ rows) h lt = sign_some i rows h.1 (omega arith)
 
-pub returns-then-starts_with-clause-value : goal.returns-then-starts_with-clause-value
-returns-then-starts_with-clause-value c =
+pub returns-then-starts_with : goal.returns-then-starts_with
+returns-then-starts_with c =
     let i = c.loop-sign.sign-index in
     let here : starts_with nat_eq c.args.bytes.now (get_or signs i ([], Bad)).0 ≡ true = grind (arith, common_steps) in
     let taken = sym (sign_in_takes i signs c.args.bytes.now (omega arith) here) ∙ c.loop-sign.invariant in
-    grind (arith, common_steps)
-
-pub returns-then-starts_with-clause-some : goal.returns-then-starts_with-clause-some
-returns-then-starts_with-clause-some c =
-    let some = sign_some c.loop-sign.sign-index signs signs-are (omega arith) in
-    grind (arith, common_steps)
+    let long = sign_some i signs signs-are (omega arith) in
+    record { value = grind (arith, common_steps); some = grind (arith, common_steps); within = grind (arith, common_steps) }
 
 pub loop-sign-preserved : goal.loop-sign-preserved
 loop-sign-preserved c =

@@ -1,5 +1,5 @@
-use Rattle.std.proofs.Common.{◌≡◌, ◌≤◌, ◌+◌, ◌-◌, ◌*◌, List, length}
-use Rattle.filter_lang.specs.Grammar.{Level, unit_place, behind_unit, behind_conjs, empty_level, opened, behind_conj}
+use Rattle.std.proofs.Common.{◌≡◌, ◌≤◌, ◌+◌, ◌-◌, ◌*◌, List, [], length}
+use Rattle.filter_lang.specs.Grammar.{Level, unit_place, behind_unit, behind_conjs, opened, behind_conj}
 use Rattle.filter_lang.specs.declared.token.Token.TheVariants.{Both, Either}
 use Rattle.filter_lang.specs.Lexer.{later}
 use Rattle.filter_lang.specs.Parser.{reads, takes}
@@ -31,7 +31,7 @@ decreases-conjunction-loop-lexer l = length (later l.lexer)
 
 abbrev pub invariant-expr-loop-lexer : goal.invariant-expr-loop-lexer
 invariant-expr-loop-lexer l = record {
-  same : (os : List Level) → opened os ≡ l.depth → reads l.fn.lexer (unit_place empty_level os) ≡ takes l.lexer (behind_conj (shape_list l.items.items) os l.lexer.token);
+  same : (os : List Level) → opened os ≡ l.depth → reads l.fn.lexer (unit_place (behind_conjs []) os) ≡ takes l.lexer (behind_conj (shape_list l.items.items) os l.lexer.token);
   within : AreWithin (shapes l.items.items);
   long : 1 ≤ length l.items.items;
   many : (l.lexer.token ≡ Either → ⊥) → 2 ≤ length l.items.items;

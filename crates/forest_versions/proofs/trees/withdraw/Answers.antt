@@ -32,27 +32,32 @@ edit-requires-clause-forest g c =
     let there : reg_of s.regs c.args.number ≡ Some c.in-Some.reg = subst (λ (l : List Reg). reg_of l c.args.number ≡ Some c.in-Some.reg) c.regs.ensures c.in-Some.ensures.there in (
       active s,
       subst (λ (d : List EventDef). IsForestOf d (active s) (listing (g.F.ForestView.content c.args.f.now c.args.forest.now)))
-          (sym c.defs.ensures) c.requires.forest,
+          (sym c.defs.ensures) c.requires.held.forest,
       on-contained s.regs c.args.number c.in-Some.reg there c.in-Some.ensures.on,
     )
 
-pub returns-in-None-clause-forest : goal.returns-in-None-clause-forest
-returns-in-None-clause-forest g c =
-    forest-absent c.args.control.now c.withdraw.new.self c.args.number (listing (g.F.ForestView.content c.args.f.now c.args.forest.now))
-    c.withdraw.ensures c.sound.ensures.private (λ r found. c.in-None.ensures.off r
-    (subst (λ (l : List Reg). reg_of l c.args.number ≡ Some r) (sym c.regs.ensures) found)) c.requires.forest
+pub returns-in-None-clause-held : goal.returns-in-None-clause-held
+returns-in-None-clause-held g c = record {
+  answered = c.requires.held.answered;
+  forest = forest-absent c.args.control.now c.withdraw.new.self c.args.number (listing (g.F.ForestView.content c.args.f.now c.args.forest.now))
+      c.withdraw.ensures c.sound.ensures.private (λ r found. c.in-None.ensures.off r
+      (subst (λ (l : List Reg). reg_of l c.args.number ≡ Some r) (sym c.regs.ensures) found)) c.requires.held.forest;
+}
 
-pub returns-in_ok-edited-in-Some-clause-forest : goal.returns-in_ok-edited-in-Some-clause-forest
-returns-in_ok-edited-in-Some-clause-forest g c =
+pub returns-in_ok-edited-in-Some-clause-held : goal.returns-in_ok-edited-in-Some-clause-held
+returns-in_ok-edited-in-Some-clause-held g c =
     let s : ControlState = c.args.control.now in
     let shown : List Shown = listing (g.F.ForestView.content c.edit.new.f c.in_ok-edited-in-Some.edited) in
     let there : reg_of s.regs c.args.number ≡ Some c.in-Some.reg = subst (λ (l : List Reg). reg_of l c.args.number ≡ Some c.in-Some.reg) c.regs.ensures c.in-Some.ensures.there in
     let number : c.in-Some.reg.number ≡ c.args.number = (found-holds (λ (q : Reg). IsTrue (is_event s.defs q.event)) s.regs c.args.number
     c.in-Some.reg (recursion_from_All _ s.regs c.sound.ensures.private.events) there).1 in
     let old : IsForestOf c.defs.result.now (active s) (listing (g.F.ForestView.content c.args.f.now c.args.forest.now)) = subst
-    (λ (d : List EventDef). IsForestOf d (active s) (listing (g.F.ForestView.content c.args.f.now c.args.forest.now))) (sym c.defs.ensures) c.requires.forest in
+    (λ (d : List EventDef). IsForestOf d (active s) (listing (g.F.ForestView.content c.args.f.now c.args.forest.now))) (sym c.defs.ensures) c.requires.held.forest in
     let new : IsForestOf c.defs.result.now (without c.in-Some.reg.number (active s)) shown = c.in_ok-edited-in-Some.ensures.listing (active s) old
     (on-contained s.regs c.args.number c.in-Some.reg there c.in-Some.ensures.on) in
-    forest-without s c.withdraw-in-Some.new.self c.args.number shown c.withdraw-in-Some.ensures
-    (subst (λ (d : List EventDef). IsForestOf d (without c.args.number (active s)) shown) c.defs.ensures
-    (subst (λ (n : ℕ). IsForestOf c.defs.result.now (without n (active s)) shown) number new))
+    record {
+      answered = c.in_ok-edited-in-Some.ensures.answered;
+      forest = forest-without s c.withdraw-in-Some.new.self c.args.number shown c.withdraw-in-Some.ensures
+          (subst (λ (d : List EventDef). IsForestOf d (without c.args.number (active s)) shown) c.defs.ensures
+          (subst (λ (n : ℕ). IsForestOf c.defs.result.now (without n (active s)) shown) number new));
+    }

@@ -14,7 +14,7 @@ returns-clause-trees g c =
     let stay = c.trees_stay.ensures in
     record {
       first = record { answered = e.answered; tree = e.forest };
-      kept = e.kept;
+      kept = e.stored.kept;
       later = never_fewer c.apply-given.result m after e.version e.unchanged;
       trees = tree_on m after c.tells_each_version.ensures c.tells_the_present.ensures (λ v s low tells. e.earlier v s low tells) c.defs.result.now c.defs.ensures stay.forest stay.list;
       lists = list_on m after c.tells_each_version.ensures c.tells_the_present.ensures (λ v s low tells. e.earlier v s low tells) c.defs.result.now c.defs.ensures stay.forest stay.list;

@@ -14,9 +14,9 @@ invariant_of-self-2 g c =
       lawful = subst (λ (m : Versions). IsTrue (is_lawful m.now c.args.c.now)) (sym c.self.view_is) c.requires.lawful;
       whole = c.give.ensures.whole;
       version = refl;
-      now = c.in_ok-give.ensures.now;
-      past = c.in_ok-give.ensures.past;
-      sound = subst IsSound c.in_ok-give.ensures.now c.sound.ensures;
+      now = c.in_ok-give.ensures.made.ok;
+      past = c.in_ok-give.ensures.noted.ok;
+      sound = subst IsSound c.in_ok-give.ensures.made.ok c.sound.ensures;
     } in
     master-next old new c.args.c.now next (omega (arith, ap (λ (m : Versions). m.version) c.self.view_is)) c.self.invariant
 
@@ -28,9 +28,9 @@ returns-clause-stands g c =
       lawful = subst (λ (m : Versions). IsTrue (is_lawful m.now c.args.c.now)) (sym c.self.view_is) c.requires.lawful;
       whole = c.give.ensures.whole;
       version = refl;
-      now = c.in_ok-give.ensures.now;
-      past = c.in_ok-give.ensures.past;
-      sound = subst IsSound c.in_ok-give.ensures.now c.sound.ensures;
+      now = c.in_ok-give.ensures.made.ok;
+      past = c.in_ok-give.ensures.noted.ok;
+      sound = subst IsSound c.in_ok-give.ensures.made.ok c.sound.ensures;
     } in
     λ presets commands h. stands-next old new c.args.c.now presets commands next (subst (λ (m : Versions). StandsFor m presets commands) (sym c.self.view_is) h)
 
@@ -42,8 +42,8 @@ returns-clause-earlier g c =
       lawful = subst (λ (m : Versions). IsTrue (is_lawful m.now c.args.c.now)) (sym c.self.view_is) c.requires.lawful;
       whole = c.give.ensures.whole;
       version = refl;
-      now = c.in_ok-give.ensures.now;
-      past = c.in_ok-give.ensures.past;
-      sound = subst IsSound c.in_ok-give.ensures.now c.sound.ensures;
+      now = c.in_ok-give.ensures.made.ok;
+      past = c.in_ok-give.ensures.noted.ok;
+      sound = subst IsSound c.in_ok-give.ensures.made.ok c.sound.ensures;
     } in
     λ v s le told. tells-still old new c.args.c.now v s next (omega (arith, ap (λ (m : Versions). m.version) c.self.view_is)) (subst (λ (m : Versions). Tells m v s) (sym c.self.view_is) told)

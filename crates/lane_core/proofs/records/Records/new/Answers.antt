@@ -21,5 +21,5 @@ returns g c = record {
       (kept-empty keep (registered_at c.in_ok-master.master) (g.F.ForestView.content c.new.new.f) c.new-2.result c.new-2.ensures.none);
   dropped = refl;
   next = refl;
-  interned = c.in_ok-master.ensures.counted;
+  interned = c.in_ok-master.ensures.stored.counted;
 }
