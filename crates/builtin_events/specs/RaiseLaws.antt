@@ -92,6 +92,18 @@ module _ (hook : Hook) (facts : Facts) where
   pub raised_first : (event : ℕ) (rows : List Row) → raised_where hook facts ((true, event) ∷ rows) ≡ raise_at event ∷ raised_where hook facts rows
   raised_first event rows = sym (one_by_one ((true, event) ∷ rows)) ∙ ap (λ raises. raise_at event ∷ raises) (one_by_one rows)
 
+  joined : (xs ys : List Row) → each_of (xs ++ ys) ≡ each_of xs ++ each_of ys
+  joined [] ys = refl
+  joined (row ∷ xs) ys =
+      ap (λ raises. raise_if row.0 (raise_at row.1) ++ raises) (joined xs ys) ∙ sym (append_assoc (raise_if row.0 (raise_at row.1)) (each_of xs) (each_of ys))
+
+  -- one that is always raised, with those before it and behind it
+  pub raised_around : (event : ℕ) (xs ys : List Row)
+      → raised_where hook facts (xs ++ (true, event) ∷ ys) ≡ raised_where hook facts xs ++ raise_at event ∷ raised_where hook facts ys
+  raised_around event xs ys =
+      sym (one_by_one (xs ++ (true, event) ∷ ys)) ∙ joined xs ((true, event) ∷ ys)
+      ∙ ap (λ raises. each_of xs ++ raise_at event ∷ raises) (one_by_one ys) ∙ ap (λ raises. raises ++ raise_at event ∷ raised_where hook facts ys) (one_by_one xs)
+
   all_if : (P : Raise → Type 0) (b : Bool) (event : ℕ) (raises : List Raise) → P (raise_at event) → AllByRecursion P raises → AllByRecursion P (raise_if b (raise_at event) ++ raises)
   all_if P true event raises one all = (one, all)
   all_if P false event raises one all = all

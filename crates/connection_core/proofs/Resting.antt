@@ -1,6 +1,6 @@
 -- What a packet comes to at its receiver that calls one thing there, which does nothing.
 use Rattle.std.proofs.Common.{◌≡◌, ℕ, ◌+◌, ◌≤◌, Bool, true, false, cond, not, ◌&&◌, ◌==◌, Option, Some, None, List, [], ◌∷◌, ◌++◌, map, refl, sym, ap, subst, ◌∙◌, arith, append-nil}
-use Rattle.std.specs.Prelude.{nat_lt, if◌then◌else◌}
+use Rattle.std.specs.Prelude.{drop, if◌then◌else◌}
 use Rattle.std.specs.List.{All, filter, fold}
 use Rattle.std.proofs.lemmas.Bool.{ne_eqb}
 use Rattle.std.proofs.lemmas.List.Elements.{All-filter, recursion_from_All}
@@ -22,7 +22,8 @@ use Rattle.app_api.specs.App.{Meaning, RestsAtReceiver}
 use Rattle.app_api.specs.Reaction.{asks_nothing}
 use Rattle.builtin_events.specs.declared.raise.Raise.{Raise}
 use Rattle.builtin_events.specs.Facts.{receiver_facts}
-use Rattle.builtin_events.specs.Raises.{raise_if, is_changed, receiver_raises}
+use Rattle.builtin_events.specs.RaiseLaws.{all_raised, raised_first}
+use Rattle.builtin_events.specs.Raises.{raised_where, receiver_events, receiver_raises}
 use Rattle.shared_forest.specs.declared.node.Slot.{Slot}
 use Rattle.event_trees.specs.declared.defs.EventDef.{EventDef}
 use Rattle.event_trees.specs.Defs.{found, path, defining, AreAddable, AreDefs}
@@ -134,40 +135,21 @@ calls_alone s are at list slots n reg named known called_one found_reg plain =
 abbrev raised_at : Facts → ℕ → Raise
 raised_at facts event = record { hook = Rcv; event = event; facts = facts }
 
-if-so : (s : ControlState) (list : List Reg) (b : Bool) (raise : Raise) → CallsNothing s list raise → CallNothing s list (raise_if b raise)
-if-so s list true raise is = (is, tt)
-if-so s list false raise is = tt
-
-and-then : (s : ControlState) (list : List Reg) (xs ys : List Raise) → CallNothing s list xs → CallNothing s list ys → CallNothing s list (xs ++ ys)
-and-then s list [] ys left right = right
-and-then s list (x ∷ xs) ys left right = (left.0, and-then s list xs ys left.1 right)
-
 -- those behind `pkt_in`
 abbrev behind : Facts → Got → List Raise
-behind f got =
-    ((((raise_if (nat_lt 0 f.rexlen) (raised_at f 258)) ++ raise_if got.rose (raised_at f 259)) ++ raise_if (not (f.fault == 0)) (raised_at f 260))
-    ++ raise_if (is_changed f) (raised_at f 261)) ++ raise_if got.over (raised_at f 262)
+behind f got = raised_where Rcv f (drop 1 (receiver_events f got))
 
 begins : (h : Head) (from : Side) (nth : ℕ) (got : Got) → receiver_raises h from nth got ≡ raised_at (receiver_facts h from nth got) 257 ∷ behind (receiver_facts h from nth got) got
 unfolding receiver_raises
-begins h from nth got = refl
+begins h from nth got = let f = receiver_facts h from nth got in raised_first Rcv f 257 (drop 1 (receiver_events f got))
 
 behind-silent : (s : ControlState) (list : List Reg) (r : Reg) → CallsAlone s list r → (f : Facts) (got : Got) → CallNothing s list (behind f got)
 behind-silent s list r is f got =
-    let none : (event : ℕ) → (257 == event) ≡ false → CallsNothing s list (raised_at f event) = λ event apart. is.alone f event apart in
-    let two = raise_if (nat_lt 0 f.rexlen) (raised_at f 258) in
-    let three = two ++ raise_if got.rose (raised_at f 259) in
-    let four = three ++ raise_if (not (f.fault == 0)) (raised_at f 260) in
-    let five = four ++ raise_if (is_changed f) (raised_at f 261) in
-    and-then s list five (raise_if got.over (raised_at f 262))
-    (and-then s list four (raise_if (is_changed f) (raised_at f 261))
-    (and-then s list three (raise_if (not (f.fault == 0)) (raised_at f 260))
-    (and-then s list two (raise_if got.rose (raised_at f 259))
-    (if-so s list (nat_lt 0 f.rexlen) (raised_at f 258) (none 258 refl))
-    (if-so s list got.rose (raised_at f 259) (none 259 refl)))
-    (if-so s list (not (f.fault == 0)) (raised_at f 260) (none 260 refl)))
-    (if-so s list (is_changed f) (raised_at f 261) (none 261 refl)))
-    (if-so s list got.over (raised_at f 262) (none 262 refl))
+    all_raised Rcv f (CallsNothing s list) (λ event. not (257 == event)) (λ event apart. is.alone f event (not-true (257 == event) apart)) (drop 1 (receiver_events f got)) refl
+  where
+    not-true : (b : Bool) → not b ≡ true → b ≡ false
+    not-true true apart = cc
+    not-true false apart = refl
 
 -- ---- the one callback
 

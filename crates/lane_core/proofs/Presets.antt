@@ -1,5 +1,7 @@
 -- The callbacks of the log application's presets.
-use Rattle.std.proofs.Common.{◌≡◌, ℕ, ◌++◌, eqb, Bool, true, false, not, nat_lt, Option, Some, None, List, [], ◌∷◌, refl, sym, ap, subst, ◌∙◌, append_assoc, append-nil}
+use Rattle.std.proofs.Common.{◌≡◌, ℕ, ◌++◌, eqb, Bool, true, false, Option, Some, None, List, [], ◌∷◌, refl, sym, ap, subst, ◌∙◌, append_assoc, append-nil}
+use Rattle.std.specs.Prelude.{drop, take}
+use Rattle.std.specs.List.{AllByRecursion, list_all}
 use Rattle.native_filters.specs.declared.facts.Facts.{Facts}
 use Rattle.native_filters.specs.declared.facts.Hook.{Hook}
 use Rattle.native_filters.specs.declared.facts.Hook.TheVariants.{Snd, Rcv}
@@ -10,7 +12,7 @@ use Rattle.tcp_emulation.specs.declared.segment.Side.TheVariants.{Client}
 use Rattle.flow_socket.specs.Emulation.{sent, sent_answer, received, got_of}
 use Rattle.flow_socket.specs.declared.answers.Sent.{Sent}
 use Rattle.flow_socket.specs.declared.answers.Got.{Got}
-use Rattle.app_api.specs.Events.{START, PKT_IN, REXMIT, NEW_DATA, ERROR, STATE, END, ORPHAN}
+use Rattle.app_api.specs.Events.{PKT_IN, ORPHAN}
 use Rattle.app_api.specs.Log.{log}
 use Rattle.app_api.specs.Reg.{preset_reg}
 use Rattle.app_api.specs.declared.entry.Entry.{Entry}
@@ -18,7 +20,8 @@ use Rattle.app_api.specs.declared.reaction.Reason.{Reason}
 use Rattle.app_api.specs.declared.registration.Reg.{Reg}
 use Rattle.builtin_events.specs.declared.raise.Raise.{Raise}
 use Rattle.builtin_events.specs.Facts.{sender_facts, receiver_facts, orphan_facts}
-use Rattle.builtin_events.specs.Raises.{raise_if, is_changed, sender_raises, receiver_raises, orphan_raises}
+use Rattle.builtin_events.specs.Raises.{raised_where, sender_events, receiver_events, sender_raises, receiver_raises, orphan_raises}
+use Rattle.builtin_events.specs.RaiseLaws.{all_raised, events_of, raised_around, raised_first}
 use Rattle.event_trees.specs.Defs.{path}
 use Rattle.event_trees.specs.Fires.{fires}
 use Rattle.forest_versions.specs.State.{ControlState, start, active as first_active}
@@ -59,6 +62,10 @@ logs-then c d e es fs one two = record {
 same_reason : (r : Option Reason) → first_reason r None ≡ r
 same_reason None = refl
 same_reason (Some reason) = refl
+
+abbrev is_none : List Reg → Bool
+is_none [] = true
+is_none (r ∷ rest) = false
 
 module _ (number : ℕ) (from : Side) where
   silent : (raise : Raise) (c : PacketUnderWay) → c.active ≡ on → fires from_start.defs raise.facts raise.hook raise.event on ≡ [] → Logs c (called_at log from_start number from raise c) []
@@ -117,81 +124,53 @@ module _ (number : ℕ) (from : Side) where
       subst (λ cs. Logs c (record (changed_all from_start cs d) { asked = [] }) entries) (sym nothing)
       (record { active = l.active; entries = l.entries; asked = sym asked; drop = l.drop })
 
-  quiet : (b : Bool) (raise : Raise) → ((c : PacketUnderWay) → c.active ≡ on → Logs c (called_at log from_start number from raise c) []) → LogsOn (raise_if b raise) []
-  unfolding phase
-  quiet true raise none c is asked = done_logs raise [] c asked (none c is)
-  quiet false raise none c is asked = logs-none c
+  -- at none of these raises anything is called
+  abbrev IsSilent : Raise → Type 0
+  IsSilent raise = (c : PacketUnderWay) → c.active ≡ on → Logs c (called_at log from_start number from raise c) []
 
-  loud : (raise : Raise) (entry : Entry) → ((c : PacketUnderWay) → c.active ≡ on → Logs c (called_at log from_start number from raise c) (entry ∷ [])) → LogsOn (raise_if true raise) (entry ∷ [])
+  quiet : (raises : List Raise) → AllByRecursion IsSilent raises → LogsOn raises []
+  unfolding phase
+  quiet [] none c is asked = logs-none c
+  quiet (raise ∷ raises) none c is asked = logs-append (raise ∷ []) raises [] [] (λ d on asked. done_logs raise [] d asked (none.0 d on)) (quiet raises none.1) c is asked
+
+  loud : (raise : Raise) (entry : Entry) → ((c : PacketUnderWay) → c.active ≡ on → Logs c (called_at log from_start number from raise c) (entry ∷ [])) → LogsOn (raise ∷ []) (entry ∷ [])
   unfolding phase
   loud raise entry one c is asked = done_logs raise (entry ∷ []) c asked (one c is)
 
-  quiet_start : (facts : Facts) (c : PacketUnderWay) → c.active ≡ on → Logs c (called_at log from_start number from (raise_of Snd facts START) c) []
-  unfolding log start path
-  quiet_start facts c is = silent (raise_of Snd facts START) c is refl
+  -- no preset hears an event at this side
+  abbrev is_unheard : Hook → Facts → ℕ → Bool
+  is_unheard hook facts event = is_none (fires from_start.defs facts hook event on)
 
-  quiet_sender_state : (facts : Facts) (c : PacketUnderWay) → c.active ≡ on → Logs c (called_at log from_start number from (raise_of Snd facts STATE) c) []
-  unfolding log start path
-  quiet_sender_state facts c is = silent (raise_of Snd facts STATE) c is refl
-
-  quiet_rexmit : (facts : Facts) (c : PacketUnderWay) → c.active ≡ on → Logs c (called_at log from_start number from (raise_of Rcv facts REXMIT) c) []
-  unfolding log start path
-  quiet_rexmit facts c is = silent (raise_of Rcv facts REXMIT) c is refl
-
-  quiet_new_data : (facts : Facts) (c : PacketUnderWay) → c.active ≡ on → Logs c (called_at log from_start number from (raise_of Rcv facts NEW_DATA) c) []
-  unfolding log start path
-  quiet_new_data facts c is = silent (raise_of Rcv facts NEW_DATA) c is refl
-
-  quiet_error : (facts : Facts) (c : PacketUnderWay) → c.active ≡ on → Logs c (called_at log from_start number from (raise_of Rcv facts ERROR) c) []
-  unfolding log start path
-  quiet_error facts c is = silent (raise_of Rcv facts ERROR) c is refl
-
-  quiet_state : (facts : Facts) (c : PacketUnderWay) → c.active ≡ on → Logs c (called_at log from_start number from (raise_of Rcv facts STATE) c) []
-  unfolding log start path
-  quiet_state facts c is = silent (raise_of Rcv facts STATE) c is refl
-
-  quiet_end : (facts : Facts) (c : PacketUnderWay) → c.active ≡ on → Logs c (called_at log from_start number from (raise_of Rcv facts END) c) []
-  unfolding log start path
-  quiet_end facts c is = silent (raise_of Rcv facts END) c is refl
+  unheard : (hook : Hook) (facts : Facts) (rows : List (Bool × ℕ)) → list_all (is_unheard hook facts) (events_of rows) ≡ true → LogsOn (raised_where hook facts rows) []
+  unheard hook facts rows none =
+      quiet (raised_where hook facts rows)
+      (all_raised hook facts IsSilent (is_unheard hook facts) (λ event is c at. silent (raise_of hook facts event) c at (empty (fires from_start.defs facts hook event on) is)) rows none)
+    where
+      empty : (l : List Reg) → is_none l ≡ true → l ≡ []
+      empty [] is = refl
+      empty (r ∷ l) is = cc
 
   sender_calls : (head : Head) (nth : ℕ) (first : Bool) (s : Sent) → LogsOn (sender_raises head from nth first s) (at_sender number ∷ [])
-  unfolding sender_raises
+  unfolding sender_raises log start path
   sender_calls head nth first s =
       let facts = sender_facts head from nth s in
-      let start_if = raise_if first (raise_of Snd facts START) in
-      let pkt_in = raise_if true (raise_of Snd facts PKT_IN) in
-      let state_if = raise_if (is_changed facts) (raise_of Snd facts STATE) in
-      logs-append (start_if ++ pkt_in) state_if (at_sender number ∷ []) []
-      (logs-append start_if pkt_in [] (at_sender number ∷ [])
-      (quiet first (raise_of Snd facts START) (quiet_start facts))
-      (loud (raise_of Snd facts PKT_IN) (at_sender number) (sender_logs facts)))
-      (quiet (is_changed facts) (raise_of Snd facts STATE) (quiet_sender_state facts))
+      let rows = sender_events facts first in
+      let before = take 1 rows in
+      let behind = drop 2 rows in
+      subst (λ raises. LogsOn raises (at_sender number ∷ [])) (sym (raised_around Snd facts PKT_IN before behind))
+      (logs-append (raised_where Snd facts before) (raise_of Snd facts PKT_IN ∷ raised_where Snd facts behind) [] (at_sender number ∷ [])
+      (unheard Snd facts before refl)
+      (logs-append (raise_of Snd facts PKT_IN ∷ []) (raised_where Snd facts behind) (at_sender number ∷ []) []
+      (loud (raise_of Snd facts PKT_IN) (at_sender number) (sender_logs facts)) (unheard Snd facts behind refl)))
 
   receiver_calls : (head : Head) (nth : ℕ) (g : Got) → LogsOn (receiver_raises head from nth g) (at_receiver number ∷ [])
-  unfolding receiver_raises
+  unfolding receiver_raises log start path
   receiver_calls head nth g =
       let facts = receiver_facts head from nth g in
-      let one = at_receiver number ∷ [] in
-      let again = nat_lt 0 facts.rexlen in
-      let faulty = not (eqb facts.fault 0) in
-      let changed = is_changed facts in
-      let pkt_in = raise_if true (raise_of Rcv facts PKT_IN) in
-      let rexmit = raise_if again (raise_of Rcv facts REXMIT) in
-      let new_data = raise_if g.rose (raise_of Rcv facts NEW_DATA) in
-      let error = raise_if faulty (raise_of Rcv facts ERROR) in
-      let state = raise_if changed (raise_of Rcv facts STATE) in
-      let end = raise_if g.over (raise_of Rcv facts END) in
-      logs-append (pkt_in ++ rexmit ++ new_data ++ error ++ state) end one []
-      (logs-append (pkt_in ++ rexmit ++ new_data ++ error) state one []
-      (logs-append (pkt_in ++ rexmit ++ new_data) error one []
-      (logs-append (pkt_in ++ rexmit) new_data one []
-      (logs-append pkt_in rexmit one []
-      (loud (raise_of Rcv facts PKT_IN) (at_receiver number) (receiver_logs facts))
-      (quiet again (raise_of Rcv facts REXMIT) (quiet_rexmit facts)))
-      (quiet g.rose (raise_of Rcv facts NEW_DATA) (quiet_new_data facts)))
-      (quiet faulty (raise_of Rcv facts ERROR) (quiet_error facts)))
-      (quiet changed (raise_of Rcv facts STATE) (quiet_state facts)))
-      (quiet g.over (raise_of Rcv facts END) (quiet_end facts))
+      let behind = drop 1 (receiver_events facts g) in
+      subst (λ raises. LogsOn raises (at_receiver number ∷ [])) (sym (raised_first Rcv facts PKT_IN behind))
+      (logs-append (raise_of Rcv facts PKT_IN ∷ []) (raised_where Rcv facts behind) (at_receiver number ∷ []) []
+      (loud (raise_of Rcv facts PKT_IN) (at_receiver number) (receiver_logs facts)) (unheard Rcv facts behind refl))
 
 -- ---- both phases of a packet
 
