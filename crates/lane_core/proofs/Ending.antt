@@ -36,9 +36,9 @@ all_ended keep app [] = refl
 all_ended keep app (one ∷ others) =
     ap (λ r. r ∷ map (ended app) (map (slot_of keep) others)) (ended_shown keep app one) ∙ ap (λ rs. shown keep app one ∷ rs) (all_ended keep app others)
 
-pub versions_named : (keep : Bool) (so_far : List RecordSoFar) → map {B = ℕ × ℕ} (λ s. (s.name, s.version)) (map (slot_of keep) so_far) ≡ map {B = ℕ × ℕ} (λ r. (r.first.number, r.version)) so_far
-versions_named keep [] = refl
-versions_named keep (one ∷ others) = ap (λ ps. (one.first.number, one.version) ∷ ps) (versions_named keep others)
+pub maps : {A B C : Type 0} (g : B → C) (f : A → B) (xs : List A) → map g (map f xs) ≡ map (λ x. g (f x)) xs
+maps g f [] = refl
+maps g f (x ∷ xs) = ap (λ ys. g (f x) ∷ ys) (maps g f xs)
 
 pub version_of_all : (keep : Bool) (so_far : List RecordSoFar) → map (λ s. s.version) (map (slot_of keep) so_far) ≡ map (λ r. r.version) so_far
 version_of_all keep [] = refl

@@ -25,7 +25,6 @@ pub mod Commands
 pub mod Standing
 pub mod Ending
 pub mod EndOfRun
-pub mod Reporting
 mod Dropping
 mod Once
 pub mod Following

@@ -1,14 +1,12 @@
 -- Only for proofs. What the end of a run does to its records.
-use Rattle.std.specs.Prelude.{◌≡◌, ◌<◌, ℕ, Bool, true, Option, Some, List, map, set, get_or}
+use Rattle.std.specs.Prelude.{◌≡◌, ◌<◌, ℕ, Bool, true, Option, Some, map, set, get_or}
 use Rattle.app_api.specs.App.{Meaning}
 use Rattle.shared_forest.specs.declared.store.ForestView.{Ghosts}
 use Rattle.lane_core.specs.declared.records.Records.{Records}
-use Rattle.lane_core.specs.declared.under_way.RecordUnderWay.{RecordUnderWay}
 use Rattle.lane_core.specs.Sight.{Moment}
 use Rattle.lane_core.specs.Records.{RecordSoFar, ended_at}
-use Rattle.lane_core.specs.Shown.{callbacks_of, drop_count, weight}
+use Rattle.lane_core.specs.Shown.{weight}
 use Rattle.lane_core.specs.Steps.{Taking}
-use Rattle.lane_core.specs.Kept.{slot_of}
 use Rattle.lane_core.specs.Packets.{KeepsSoFar, ForSoFar}
 
 module _ {F : Type 0} {store : Ghosts F} where
@@ -25,9 +23,3 @@ module _ {F : Type 0} {store : Ghosts F} where
   pub record IsTooHeavy (app : Meaning) (keep : Bool) (r : Records F store) (last : Option Moment) : Type 0 where
     pub keeps : keep ≡ true
     pub heavy : ForSoFar keep r (λ control_at so_far. 134217728 < weight (map (ended_at app control_at last) so_far))
-
--- what is left of a lane that ended with these records
-pub record IsClosed (keep : Bool) (so_far : List RecordSoFar) (slots : List RecordUnderWay) (callbacks drops : ℕ) : Type 0 where
-  pub slots_are : slots ≡ map (slot_of keep) so_far
-  pub callbacks_are : callbacks ≡ callbacks_of so_far
-  pub drops_are : drops ≡ drop_count so_far

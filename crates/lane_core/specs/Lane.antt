@@ -1,5 +1,5 @@
 -- Not of the headline. What a lane stands for, in terms of its parts.
-use Rattle.std.specs.Prelude.{◌≡◌, ℕ, ◌<◌, Bool, true, Option, Some, None, List, [], ◌∷◌, ◌++◌, length, map, if◌then◌else◌, zero, suc, ⊤}
+use Rattle.std.specs.Prelude.{◌≡◌, ℕ, ◌<◌, Bool, true, Option, Some, None, List, [], ◌∷◌, ◌++◌, length, map, if◌then◌else◌, zero, suc, ⊤, Result, Err, IfOk, IfErr, OnOk}
 use Rattle.app_api.specs.App.{Meaning}
 use Rattle.app_api.specs.declared.reaction.Verdict.{Verdict}
 use Rattle.shared_forest.specs.declared.store.ForestView.{Ghosts}
@@ -9,13 +9,15 @@ use Rattle.event_trees.specs.declared.defs.EventDef.{EventDef}
 use Rattle.event_trees.specs.Edit.{IsForestOf}
 use Rattle.report_text.specs.declared.record.Record.{Record}
 use Rattle.forest_versions.specs.Master.{StandsFor}
+use Rattle.forest_versions.specs.State.{ControlState}
+use Rattle.connection_core.specs.Trees.{InternsWithin}
 use Rattle.lane_core.specs.declared.errors.LaneError.{LaneError}
 use Rattle.lane_core.specs.declared.errors.LaneError.TheVariants.{Heavy}
 use Rattle.lane_core.specs.declared.records.Records.{Records}
 use Rattle.lane_core.specs.Sight.{Moment, Arrival}
 use Rattle.lane_core.specs.Records.{RecordSoFar, verdict_on}
 use Rattle.lane_core.specs.Run.{LaneEvent, Arrived, commands_of, control_of, lane_run, ended_run, newest_of}
-use Rattle.lane_core.specs.Shown.{record_of, callbacks_of, drop_count, weight}
+use Rattle.lane_core.specs.Shown.{record_of, callbacks_of, drop_count, weight, alterations}
 use Rattle.lane_core.specs.Packets.{KeepsSoFar}
 
 -- one more packet, or one more command
@@ -100,3 +102,30 @@ pub record IsEnd (keep : Bool) (app : Meaning) (so_far : List RecordSoFar) (reco
   pub versions_are : versions ≡ map (λ r. (r.first.number, r.version)) so_far
   pub callbacks_are : callbacks ≡ callbacks_of so_far
   pub drops_are : drops ≡ drop_count so_far
+
+-- ---- one packet more, in terms of what a recorder is seen as
+
+module _ {L : Type 0} (stands_for : L → List LaneEvent → Type 0) (app_of : L → Meaning) (keeps_of : L → Bool) (in_force : L → ControlState)
+    (given : L → ℕ) (last : L → Option ℕ) (failed : L → Option LaneError) (interns : L → Option ℕ) where
+  -- a recorder takes a packet, or it fails for good, and what becomes of the packet is answered
+  pub record TakesPacket (old new : L) (a : Arrival) (result : Result Verdict LaneError) : Type 0 where
+    -- it stands for one event more
+    pub stands : GoesOn failed stands_for old new (Arrived a)
+    -- its first error is for good
+    pub failed_before : HadFailed (failed old) (λ e. (result ≡ Err e) × (new ≡ old))
+    pub ok : OnOk result (failed new ≡ None)
+    pub fails : IfErr result (λ e. failed new ≡ Some e)
+    -- the packet is passed on or dropped
+    pub verdict : IfOk result (λ verdict. ForEvents (stands_for old) (λ events. verdict ≡ next_verdict (app_of old) events a))
+    -- it fails as heavy exactly where it keeps entries and they weigh too much with this packet
+    pub light : OnOk result (KeepsWithin keeps_of app_of stands_for old (IsHeavyAt a))
+    pub heavy : failed old ≡ None → result ≡ Err Heavy → KeepsTooMuch keeps_of app_of stands_for old (IsHeavyAt a)
+    -- its store interned at most once for each change that the packet makes of a connection's private list
+    pub interned : failed old ≡ None → ForEvents (stands_for old) (λ events. InternsWithin (interns old) (interns new)
+        (alterations (lane_run (app_of old) events)) (alterations (lane_run (app_of old) (with_event (Arrived a) events))))
+    -- the packet is its last one, and all else is as it was
+    pub newest : failed old ≡ None → last new ≡ Some a.number
+    pub version : given new ≡ given old
+    pub control : in_force new ≡ in_force old
+    pub app : app_of new ≡ app_of old
+    pub keeps : keeps_of new ≡ keeps_of old

@@ -18,4 +18,3 @@ pub mod Packets
 pub mod Closing
 pub mod Lane
 pub mod KeptEnd
-pub mod Report

@@ -112,6 +112,11 @@ module _ {F : Type 0} {store : Ghosts F} where
     pub made : (sight : Sight) → ForSoFar t.keep old (λ control_at so_far. IsOrphan sight class head so_far
         → Makes t old new verdict (verdict_among t.app control_at (packet_of t old sight) so_far) so_far (placed t.app control_at (packet_of t old sight) so_far))
 
+  -- a packet of this number may come: its number is above all before, and a capture may have it
+  pub record MayCome (number : ℕ) (r : Records F store) : Type 0 where
+    pub rising : r.next ≤ number
+    pub bound : number < 1048576
+
   -- the packet of this number has come, and there is room for its record and its callbacks
   pub record HasCome (number : ℕ) (r : Records F store) : Type 0 where
     pub next : r.next ≡ number + 1

@@ -31,10 +31,6 @@ pub record Taking : Type 0 where
 abbrev pub taking : {A X : Type 0} {g : _} → (A → Meaning) → PacketTerms A X g → Taking
 taking meaning terms = record { app = meaning terms.app.now; keep = terms.keep; number = terms.number; moment = terms.moment }
 
--- the packet of a number and a time
-abbrev pub taken_as : Meaning → Bool → ℕ → Moment → Taking
-taken_as app keep number moment = record { app = app; keep = keep; number = number; moment = moment }
-
 -- a record under way, with the counts of all callbacks
 pub record Page : Type 0 where
   pub slot : RecordUnderWay

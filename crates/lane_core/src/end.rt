@@ -1,8 +1,11 @@
 //! What a lane ends with.
 
-ghost use Rattle.std.specs.Prelude.{◌≡◌, IfOk, map, if◌then◌else◌, []};
+ghost use Rattle.std.specs.Prelude.{◌≡◌, IfOk, List, Bool, map, if◌then◌else◌, []};
 ghost use Rattle.report_text.specs.Kept.{is_conn};
 ghost use Rattle.lane_core.specs.End.{ended};
+ghost use Rattle.lane_core.specs.KeptEnd.{IsKeptEnd};
+ghost use Rattle.lane_core.specs.Lane.{IsEnd};
+ghost use Rattle.lane_core.specs.Records.{RecordSoFar};
 
 use crate::under_way::RecordUnderWay;
 use app_api::{App, FieldList, Tally, fields_of};
@@ -83,18 +86,34 @@ pub struct KeptEnd {
     pub drops: u64,
 }
 
-/// What is left of a lane that goes on no more.
+/// What a lane ends with, and its application, which tells the fields of its records.
 #[derive(Drop)]
-pub(crate) struct Closed<A> {
-    pub(crate) app: A,
-    /// The records in order of name.
-    pub(crate) list: Vec<RecordUnderWay>,
-    /// The callbacks of all records.
-    pub(crate) callbacks: u64,
-    /// What these weigh.
-    pub(crate) weight: u64,
-    /// The dropped packets of all records.
-    pub(crate) drops: u64,
+pub struct Closed<A> {
+    pub app: A,
+    pub end: KeptEnd,
+}
+
+impl KeptEnd {
+    /// The same with the records as the report shows them, and the name of each with its version.
+    pub(crate) fn shown<A: App>(self, alloc: Global, app: &A) -> Result<LaneEnd, AllocError>
+        ensures { (keep : Bool) (so_far : List RecordSoFar) → IsKeptEnd keep (A.meaning app.now) so_far self
+            → IfOk result (λ end. IsEnd keep (A.meaning app.now) so_far end.records end.versions end.callbacks end.drops) }
+    {
+        let KeptEnd {
+            records,
+            callbacks,
+            drops,
+            ..
+        } = self;
+        let versions = versions_of(alloc, records.as_slice())?;
+        let records = records_of(alloc, app, records.items)?;
+        Ok(LaneEnd {
+            records,
+            versions,
+            callbacks,
+            drops,
+        })
+    }
 }
 
 // The fields of a record: an orphan has none.
@@ -151,11 +170,8 @@ pub fn records_of<A: App>(
     Ok(RecordList { items })
 }
 
-/// The name of each record, with its version.
-pub(crate) fn versions_of(
-    alloc: Global,
-    slots: &[RecordUnderWay],
-) -> Result<VersionOfList, AllocError>
+// The name of each record, with its version.
+fn versions_of(alloc: Global, slots: &[RecordUnderWay]) -> Result<VersionOfList, AllocError>
     ensures { IfOk result (λ versions. versions ≡ map (λ s. (s.name, s.version)) slots.now) }
 {
     let mut items = Vec::with_capacity(alloc, slots.len())?;

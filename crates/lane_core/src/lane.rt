@@ -4,29 +4,25 @@ ghost use Rattle.std.specs.Prelude.{◌≡◌, ◌<◌, ◌≤◌, [], IfOk, OnO
 ghost use Rattle.std.specs.Option.{option_copied};
 ghost use Rattle.shared_forest.specs.Store.{CountsAtMost};
 ghost use Rattle.forest_versions.specs.State.{start};
-ghost use Rattle.lane_core.specs.Closing.{IsClosed};
 ghost use Rattle.lane_core.specs.Lane.{ForEvents, HadFailed, IsHeavyAtEnd, IsHeavyBy, IsTreeFound};
 ghost use Rattle.lane_core.specs.Packets.{AddsCounted, CostsToAdd, StaysUnder};
 ghost use Rattle.lane_core.specs.Records.{open_at};
 ghost use Rattle.lane_core.specs.Run.{ended_run, lane_run};
 ghost use Rattle.lane_core.specs.Shown.{weight};
 ghost use Rattle.lane_core.specs.Sight.{sight_of};
-ghost use Rattle.lane_core.specs.Steps.{taken_as};
 
-use crate::end::{Closed, KeptEnd, KeptRecords, LaneEnd, records_of, versions_of};
+use crate::end::{Closed, KeptEnd, KeptRecords, LaneEnd};
 use crate::errors::LaneError;
 use crate::recorder::Recorder;
 use crate::records::Records;
-use crate::report::{ReportError, Reporter, version_of_each, write_all_kept};
+use crate::report::Reporter;
 use crate::terms::PacketTerms;
 use app_api::{App, Verdict, presets_of};
 use flow_table::Key;
 use flow_timers::Moment;
 use forest_versions::{Command, Control};
-use mos_bytes::Sink;
 use native_filters::NativeBook;
 use pcap_source::Frame;
-use report_text::{Totals, write_totals};
 use shared_forest::{Forests, Tree};
 use std::alloc::{AllocError, Global};
 
@@ -64,34 +60,6 @@ impl<A: App + Drop, F: Forests + Drop> Lane<A, F> {
         })
     }
 
-    // One more packet.
-    fn take(
-        &mut self,
-        alloc: Global,
-        natives: &NativeBook,
-        number: u64,
-        moment: Moment,
-        bytes: &[u8],
-    ) -> Result<Verdict, AllocError>
-        requires rising { self.old.records.next ≤ number }
-        requires bound { number < 1048576 }
-        ensures stands { IfOk result (AddsCounted (taken_as (A.meaning self.old.app) self.old.keep number moment)
-            self.old.records self.new.records (sight_of bytes.now)) }
-        ensures costs { OnErr result (CostsToAdd (taken_as (A.meaning self.old.app) self.old.keep number moment)
-            self.old.records self.new.records (sight_of bytes.now)) }
-        ensures rest { self.new ≡ record self.old { records = self.new.records } }
-    {
-        let terms = PacketTerms {
-            alloc,
-            app: &self.app,
-            keep: self.keep,
-            natives,
-            number,
-            moment,
-        };
-        self.records.take(&terms, bytes)
-    }
-
     // Fails for good, and answers why. What was kept is asked for no more, so its memory goes back at once.
     fn fail(&mut self, alloc: Global, error: LaneError) -> LaneError
         ensures answer { result ≡ error }
@@ -101,53 +69,6 @@ impl<A: App + Drop, F: Forests + Drop> Lane<A, F> {
         self.records.clear(alloc);
         self.failed = Some(error);
         error
-    }
-
-    // Ends the connections that were idle for too long, and hands out what was kept.
-    fn closed(
-        self,
-        alloc: Global,
-        greatest: Option<Moment>,
-        natives: &NativeBook,
-    ) -> Result<Closed<A>, LaneError>
-        ensures failed { HadFailed self.failed (λ e. result ≡ Err e) }
-        ensures app { IfOk result (λ closed. closed.app ≡ self.app) }
-        ensures closed { self.failed ≡ None → IfOk result (λ closed.
-            ForEvents (⟦<Lane<A, F> as Recorder>⟧.stands self) (λ events.
-            IsClosed self.keep (ended_run (A.meaning self.app) events greatest)
-            closed.list.items closed.callbacks closed.drops)) }
-        ensures weighed { self.failed ≡ None → IfOk result (λ closed.
-            ForEvents (⟦<Lane<A, F> as Recorder>⟧.stands self) (λ events.
-            closed.weight ≡ weight (ended_run (A.meaning self.app) events greatest))) }
-        ensures light { OnOk result (self.keep ≡ true → ForEvents (⟦<Lane<A, F> as Recorder>⟧.stands self)
-            (λ events. IsHeavyAtEnd (A.meaning self.app) events greatest → ⊥)) }
-        ensures heavy { self.failed ≡ None → result ≡ Err LaneError.Heavy → (self.keep ≡ true)
-            × ForEvents (⟦<Lane<A, F> as Recorder>⟧.stands self) (IsHeavyBy greatest (A.meaning self.app)) }
-    {
-        let Lane {
-            app,
-            keep,
-            records,
-            failed,
-        } = self;
-        if let Some(error) = failed {
-            return Err(error);
-        }
-        let mut records = records;
-        records.end_all(alloc, &app, keep, natives, greatest)?;
-        let Records {
-            list,
-            ledger,
-            dropped,
-            ..
-        } = records;
-        Ok(Closed {
-            app,
-            list,
-            callbacks: ledger.counts.callbacks,
-            weight: ledger.counts.weight,
-            drops: dropped,
-        })
     }
 
     /// The store of its trees.
@@ -211,7 +132,15 @@ impl<A: App + Drop, F: Forests + Drop> Recorder for Lane<A, F> {
         if let Some(error) = self.failed {
             return Err(error);
         }
-        let Ok(verdict) = self.take(alloc, natives, number, moment, bytes) else {
+        let terms = PacketTerms {
+            alloc,
+            app: &self.app,
+            keep: self.keep,
+            natives,
+            number,
+            moment,
+        };
+        let Ok(verdict) = self.records.take(&terms, bytes) else {
             return Err(self.fail(alloc, LaneError::NoMemory));
         };
         if self.records.is_too_heavy(self.keep) {
@@ -256,55 +185,56 @@ impl<A: App + Drop, F: Forests + Drop> Recorder for Lane<A, F> {
         greatest: Option<Moment>,
         natives: &NativeBook,
     ) -> Result<LaneEnd, LaneError> {
-        let closed = self.closed(alloc, greatest, natives)?;
-        let slots = closed.list;
-        let versions = versions_of(alloc, &slots)?;
-        let records = records_of(alloc, &closed.app, slots)?;
-        Ok(LaneEnd {
-            records,
-            versions,
-            callbacks: closed.callbacks,
-            drops: closed.drops,
-        })
+        let closed = self.close(alloc, greatest, natives)?;
+        Ok(closed.end.shown(alloc, &closed.app)?)
     }
 }
 
 impl<A: App + Drop, F: Forests + Drop> Reporter for Lane<A, F> {
+    type Application = A;
+
+    fn close(
+        self,
+        alloc: Global,
+        greatest: Option<Moment>,
+        natives: &NativeBook,
+    ) -> Result<Closed<A>, LaneError> {
+        let Lane {
+            app,
+            keep,
+            records,
+            failed,
+        } = self;
+        if let Some(error) = failed {
+            return Err(error);
+        }
+        let mut records = records;
+        records.end_all(alloc, &app, keep, natives, greatest)?;
+        if records.is_too_heavy(keep) {
+            return Err(LaneError::Heavy);
+        }
+        let Records {
+            list,
+            ledger,
+            dropped,
+            ..
+        } = records;
+        let end = KeptEnd {
+            records: KeptRecords { items: list },
+            callbacks: ledger.counts.callbacks,
+            weight: ledger.counts.weight,
+            drops: dropped,
+        };
+        Ok(Closed { app, end })
+    }
+
     fn finish_kept(
         self,
         alloc: Global,
         greatest: Option<Moment>,
         natives: &NativeBook,
     ) -> Result<KeptEnd, LaneError> {
-        let closed = self.closed(alloc, greatest, natives)?;
-        Ok(KeptEnd {
-            records: KeptRecords { items: closed.list },
-            callbacks: closed.callbacks,
-            weight: closed.weight,
-            drops: closed.drops,
-        })
-    }
-
-    fn report<O: Sink>(
-        self,
-        alloc: Global,
-        greatest: Option<Moment>,
-        natives: &NativeBook,
-        packets: u64,
-        tail: u32,
-        out: &mut O,
-    ) -> Result<Vec<u32>, ReportError> {
-        let closed = self.closed(alloc, greatest, natives)?;
-        let versions = version_of_each(alloc, &closed.list)?;
-        let totals = Totals {
-            packets,
-            records: closed.list.len() as u64,
-            callbacks: closed.callbacks,
-            drops: closed.drops,
-            tail,
-        };
-        write_all_kept(alloc, &closed.app, out, &closed.list)?;
-        write_totals(alloc, out, &totals)?;
-        Ok(versions)
+        let closed = self.close(alloc, greatest, natives)?;
+        Ok(closed.end)
     }
 }

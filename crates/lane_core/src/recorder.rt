@@ -3,12 +3,10 @@
 ghost use Rattle.std.specs.Prelude.{◌≡◌, ◌≢◌, ◌+◌, ◌<◌, ◌↔◌, [], OnOk, OnErr, IfOk, IfErr, IsTrue, Err, Some, None};
 ghost use Rattle.forest_versions.specs.Lawful.{is_lawful};
 ghost use Rattle.forest_versions.specs.State.{after};
-ghost use Rattle.connection_core.specs.Trees.{InternsWithin};
 ghost use Rattle.shared_forest.specs.Store.{CountsAtMost};
 ghost use Rattle.lane_core.specs.Sight.{arrival_at, arrival_of};
-ghost use Rattle.lane_core.specs.Run.{Gave, Arrived, lane_run, ended_run, newest_of, packets_of};
-ghost use Rattle.lane_core.specs.Shown.{alterations};
-ghost use Rattle.lane_core.specs.Lane.{ForEvents, GoesOn, HadFailed, IsEnd, IsHeavyAt, IsHeavyBy, IsAfter, KeepsTooMuch, KeepsWithin, next_verdict, with_event};
+ghost use Rattle.lane_core.specs.Run.{Gave, ended_run, newest_of, packets_of};
+ghost use Rattle.lane_core.specs.Lane.{ForEvents, GoesOn, HadFailed, IsEnd, IsHeavyBy, IsAfter, KeepsTooMuch, KeepsWithin, TakesPacket};
 
 use crate::end::LaneEnd;
 use crate::errors::LaneError;
@@ -93,25 +91,8 @@ pub trait Recorder {
     ) -> Result<Verdict, LaneError>
         requires rising { IsAfter (last self.old) number }
         requires bound { number < 1048576 }
-        ensures stands { GoesOn failed stands self.old self.new (Arrived (arrival_at number moment bytes.now)) }
-        ensures failed_before { HadFailed (failed self.old) (λ e. (result ≡ Err e) × (self.new ≡ self.old)) }
-        ensures ok { OnOk result (failed self.new ≡ None) }
-        ensures fails { IfErr result (λ e. failed self.new ≡ Some e) }
-        ensures verdict { IfOk result (λ verdict. ForEvents (stands self.old) (λ events.
-            verdict ≡ next_verdict (app self.old) events (arrival_at number moment bytes.now))) }
-        ensures light { OnOk result
-            (KeepsWithin keeps app stands self.old (IsHeavyAt (arrival_at number moment bytes.now))) }
-        ensures heavy { failed self.old ≡ None → result ≡ Err Error.Heavy
-            → KeepsTooMuch keeps app stands self.old (IsHeavyAt (arrival_at number moment bytes.now)) }
-        ensures interned { failed self.old ≡ None → ForEvents (stands self.old) (λ events.
-            InternsWithin (interns self.old) (interns self.new)
-            (alterations (lane_run (app self.old) events))
-            (alterations (lane_run (app self.old) (with_event (Arrived (arrival_at number moment bytes.now)) events)))) }
-        ensures newest { failed self.old ≡ None → last self.new ≡ Some number }
-        ensures version { given self.new ≡ given self.old }
-        ensures control { control self.new ≡ control self.old }
-        ensures app { app self.new ≡ app self.old }
-        ensures keeps { keeps self.new ≡ keeps self.old };
+        ensures { TakesPacket stands app keeps control given last failed interns
+            self.old self.new (arrival_at number moment bytes.now) result };
 
     /// One more packet, as `packet_at` takes it: that of a captured record.
     fn packet(
@@ -123,24 +104,8 @@ pub trait Recorder {
     ) -> Result<Verdict, LaneError>
         requires rising { IsAfter (last self.old) number }
         requires bound { number < 1048576 }
-        ensures stands { GoesOn failed stands self.old self.new (Arrived (arrival_of number frame.now)) }
-        ensures failed_before { HadFailed (failed self.old) (λ e. (result ≡ Err e) × (self.new ≡ self.old)) }
-        ensures ok { OnOk result (failed self.new ≡ None) }
-        ensures fails { IfErr result (λ e. failed self.new ≡ Some e) }
-        ensures verdict { IfOk result (λ verdict. ForEvents (stands self.old) (λ events.
-            verdict ≡ next_verdict (app self.old) events (arrival_of number frame.now))) }
-        ensures light { OnOk result (KeepsWithin keeps app stands self.old (IsHeavyAt (arrival_of number frame.now))) }
-        ensures heavy { failed self.old ≡ None → result ≡ Err Error.Heavy
-            → KeepsTooMuch keeps app stands self.old (IsHeavyAt (arrival_of number frame.now)) }
-        ensures interned { failed self.old ≡ None → ForEvents (stands self.old) (λ events.
-            InternsWithin (interns self.old) (interns self.new)
-            (alterations (lane_run (app self.old) events))
-            (alterations (lane_run (app self.old) (with_event (Arrived (arrival_of number frame.now)) events)))) }
-        ensures newest { failed self.old ≡ None → last self.new ≡ Some number }
-        ensures version { given self.new ≡ given self.old }
-        ensures control { control self.new ≡ control self.old }
-        ensures app { app self.new ≡ app self.old }
-        ensures keeps { keeps self.new ≡ keeps self.old };
+        ensures { TakesPacket stands app keeps control given last failed interns
+            self.old self.new (arrival_of number frame.now) result };
 
     /// The commands so far.
     fn version(&self) -> u32

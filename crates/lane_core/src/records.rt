@@ -55,7 +55,7 @@ impl<F: Forests + Drop> Records<F> {
     ghost use Rattle.ip6_views.specs.Seen.{seen, shown};
     ghost use Rattle.lane_core.specs.Sight.{Tcp, Other, sight_of};
     ghost use Rattle.lane_core.specs.Steps.{taking};
-    ghost use Rattle.lane_core.specs.Packets.{Adds, AddsCounted, CostsToAdd, StaysUnder, AreAlike, Begins, Gives};
+    ghost use Rattle.lane_core.specs.Packets.{Adds, AddsCounted, CostsToAdd, StaysUnder, AreAlike, Begins, Gives, MayCome};
 
     /// No record yet, under an application's presets.
     pub(crate) fn new(alloc: Global, forests: F, presets: &[Reg]) -> Result<Records<F>, AllocError>
@@ -121,8 +121,7 @@ impl<F: Forests + Drop> Records<F> {
         terms: &PacketTerms<'_, A>,
         segment: &SightTcp<'_>,
     ) -> Result<Verdict, AllocError>
-        requires rising { self.old.next ≤ terms.now.number }
-        requires bound { terms.now.number < 1048576 }
+        requires comes { MayCome terms.now.number self.old }
         ensures stands { IfOk result (Adds (taking A.meaning terms.now) self.old self.new (Tcp (seen segment.now))) }
         ensures failed { OnErr result
             (CostsToAdd (taking A.meaning terms.now) self.old self.new (Tcp (seen segment.now))) }
@@ -146,8 +145,7 @@ impl<F: Forests + Drop> Records<F> {
         terms: &PacketTerms<'_, A>,
         class: Class,
     ) -> Result<Verdict, AllocError>
-        requires rising { self.old.next ≤ terms.now.number }
-        requires bound { terms.now.number < 1048576 }
+        requires comes { MayCome terms.now.number self.old }
         ensures stands { IfOk result (Adds (taking A.meaning terms.now) self.old self.new (Other class)) }
         ensures failed { OnErr result (CostsToAdd (taking A.meaning terms.now) self.old self.new (Other class)) }
     {
@@ -161,8 +159,7 @@ impl<F: Forests + Drop> Records<F> {
         terms: &PacketTerms<'_, A>,
         sight: &Sight<'_>,
     ) -> Result<Verdict, AllocError>
-        requires rising { self.old.next ≤ terms.now.number }
-        requires bound { terms.now.number < 1048576 }
+        requires comes { MayCome terms.now.number self.old }
         ensures stands { IfOk result (Adds (taking A.meaning terms.now) self.old self.new (shown sight.now)) }
         ensures failed { OnErr result (CostsToAdd (taking A.meaning terms.now) self.old self.new (shown sight.now)) }
     {
@@ -178,8 +175,7 @@ impl<F: Forests + Drop> Records<F> {
         terms: &PacketTerms<'_, A>,
         bytes: &[u8],
     ) -> Result<Verdict, AllocError>
-        requires rising { self.old.next ≤ terms.now.number }
-        requires bound { terms.now.number < 1048576 }
+        requires comes { MayCome terms.now.number self.old }
         ensures stands { IfOk result
             (AddsCounted (taking A.meaning terms.now) self.old self.new (sight_of bytes.now)) }
         ensures failed { OnErr result

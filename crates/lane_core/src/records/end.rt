@@ -63,8 +63,9 @@ impl<F: Forests + Drop> Records<F> {
         Ok(())
     }
 
-    // Ends each open connection that was idle for too long at the greatest moment, if there is one.
-    fn end_by<A: App>(
+    /// Ends each open connection that was idle for too long at the greatest moment, if there is one. An error is want of
+    /// memory, or that the entries that are kept weigh too much then.
+    pub(crate) fn end_all<A: App>(
         &mut self,
         alloc: Global,
         app: &A,
@@ -91,27 +92,5 @@ impl<F: Forests + Drop> Records<F> {
             moment,
         };
         self.end_each(&terms)
-    }
-
-    /// Ends each open connection that was idle for too long at the greatest moment, if there is one. An error is want of
-    /// memory, or that the entries that are kept weigh too much then.
-    pub(crate) fn end_all<A: App>(
-        &mut self,
-        alloc: Global,
-        app: &A,
-        keep: bool,
-        natives: &NativeBook,
-        greatest: Option<Moment>,
-    ) -> Result<(), LaneError>
-        ensures ends { OnOk result (EndsAll (A.meaning app.now) keep self.old self.new greatest) }
-        ensures light { OnOk result ((keep && nat_lt 134217728 self.new.ledger.counts.weight) ≡ false) }
-        ensures heavy { result ≡ Err Heavy → IsTooHeavy (A.meaning app.now) keep self.old greatest }
-        ensures dropped { self.new.dropped ≡ self.old.dropped }
-    {
-        self.end_by(alloc, app, keep, natives, greatest)?;
-        if self.is_too_heavy(keep) {
-            return Err(LaneError::Heavy);
-        }
-        Ok(())
     }
 }

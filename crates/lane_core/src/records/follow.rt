@@ -10,7 +10,7 @@ ghost use Rattle.lane_core.specs.Sight.{key_of_segment};
 ghost use Rattle.lane_core.specs.Live.{IsCalled, CarriesOn};
 ghost use Rattle.lane_core.specs.Idle.{IsGone, IsPutWhere};
 ghost use Rattle.lane_core.specs.Steps.{taking, stage_in, IsStep, FailsStep};
-ghost use Rattle.lane_core.specs.Packets.{Follows, Costs};
+ghost use Rattle.lane_core.specs.Packets.{Follows, Costs, MayCome};
 
 use crate::connection::Connection;
 use crate::records::Records;
@@ -95,8 +95,7 @@ impl<F: Forests + Drop> Records<F> {
         segment: &SightTcp<'_>,
     ) -> Result<Option<Step>, AllocError>
         requires key { key.now ≡ key_of_segment (seen segment.now) }
-        requires rising { self.old.next ≤ terms.now.number }
-        requires bound { terms.now.number < 1048576 }
+        requires comes { MayCome terms.now.number self.old }
         ensures none { result ≡ Ok None
             → IsGone self.old.master terms.now.moment (found self.old.connections key.now) × (self.new ≡ self.old) }
         ensures some { IfOk result (λ taken. IfSome taken (λ step.

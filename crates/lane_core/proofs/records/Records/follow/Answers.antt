@@ -77,8 +77,8 @@ invariant_of-self-in-Break-1 g c =
     let on = c.step_one.ensures.carries_on in
     let rise = c.step_one.ensures.rise in
     let counted = self.counted in
-    let rising = c.requires.rising in
-    let bound = c.requires.bound in
+    let rising = c.requires.comes.rising in
+    let bound = c.requires.comes.bound in
     let few = counted.few in
     let dropped = counted.few_dropped in
     record {
@@ -120,8 +120,8 @@ invariant_of-self-2 g c =
     let on = c.step_one.ensures.carries_on in
     let rise = c.step_one.ensures.rise in
     let counted = self.counted in
-    let rising = c.requires.rising in
-    let bound = c.requires.bound in
+    let rising = c.requires.comes.rising in
+    let bound = c.requires.comes.bound in
     let few = counted.few in
     let dropped = counted.few_dropped in
     record {

@@ -10,8 +10,8 @@ pub invariant_of-self : goal.invariant_of-self
 invariant_of-self g c =
     let self = c.args.self.now in
     let counted = self.counted in
-    let rising = c.requires.rising in
-    let bound = c.requires.bound in
+    let rising = c.requires.comes.rising in
+    let bound = c.requires.comes.bound in
     record {
       live = live_later (g.F.ForestView.answered self.forests) (g.F.ForestView.content self.forests) self.master self.list.len self.next (c.args.terms.now.number + 1) self.connections (omega (arith, rising)) self.live;
       counted = record {

@@ -124,8 +124,8 @@ invariant_of-self g c =
     let mid = c.follow.new.self in
     let same = (c.in_ok-step.ensures.none (ap Ok c.in_default.is)).1 in
     let next : mid.next ≡ c.args.self.now.next = ap (λ r. r.next) same in
-    let rising = c.requires.rising in
-    let bound = c.requires.bound in
+    let rising = c.requires.comes.rising in
+    let bound = c.requires.comes.bound in
     let counted = mid.counted in
     record {
       live = live_later (g.F.ForestView.answered mid.forests) (g.F.ForestView.content mid.forests) mid.master mid.list.len mid.next (c.args.terms.now.number + 1) mid.connections (omega (arith, rising, next)) mid.live;
@@ -145,7 +145,7 @@ begin-requires-clause-come g c =
     let mid = c.end_idle.new.self in
     let next : met.next ≡ c.args.self.now.next = ap (λ r. r.next) (c.in_ok-step.ensures.none (ap Ok c.in_default.is)).1 in
     let left = c.end_idle.ensures.left in
-    has_come met mid c.args.terms.now.number (let rising = c.requires.rising in omega (arith, rising, next)) c.end_idle.ensures.next left.places left.callbacks left.weight
+    has_come met mid c.args.terms.now.number (let rising = c.requires.comes.rising in omega (arith, rising, next)) c.end_idle.ensures.next left.places left.callbacks left.weight
 
 pub orphan-requires : goal.orphan-requires
 orphan-requires g c =
@@ -154,5 +154,5 @@ orphan-requires g c =
     let next : met.next ≡ c.args.self.now.next = ap (λ r. r.next) (c.in_ok-step.ensures.none (ap Ok c.in_default.is)).1 in
     let left = c.end_idle.ensures.left in
     record {
-      come = has_come met mid c.args.terms.now.number (let rising = c.requires.rising in omega (arith, rising, next)) c.end_idle.ensures.next left.places left.callbacks left.weight;
+      come = has_come met mid c.args.terms.now.number (let rising = c.requires.comes.rising in omega (arith, rising, next)) c.end_idle.ensures.next left.places left.callbacks left.weight;
     }
