@@ -13,7 +13,7 @@ use Rattle.forest_versions.specs.declared.command.Stamp.{Stamp}
 use Rattle.forest_versions.specs.declared.command.Stamp.TheVariants.{At, Live}
 use Rattle.control_script.specs.declared.script.Row.{Row}
 use Rattle.control_script.specs.declared.stamped.Stamped.{Stamped}
-use Rattle.control_script.specs.Order.{commands_of, is_later, is_before, are_in_order}
+use Rattle.control_script.specs.Order.{commands_of, is_later, are_in_order}
 use Rattle.control_script.specs.Rows.{stamped_of, latest_with, forced_with, AreMarked, AreRows, last_latest, last_forced}
 use Rattle.control_script.specs.Versions.{is_forced, behind_one, floor, ceil, is_live}
 
@@ -104,14 +104,14 @@ second true b h = h
 second false b h = absurd (cc)
 
 -- behind a command that packet n may not see stands none that it has to see
-floor-step : (s : Stamp) (n k : ℕ) → ltb n k ≡ true → not (is_before k s) ≡ true → is_forced n s ≡ false
+floor-step : (s : Stamp) (n k : ℕ) → ltb n k ≡ true → not (is_later (At k) s) ≡ true → is_forced n s ≡ false
 floor-step (At j) n k h later = grind (arith, nat_tests)
 floor-step Live n k h later = refl
 
 floor-none : (n k : ℕ) (ss : List Stamped) → ltb n k ≡ true → list_all (λ t. not (is_later (At k) t.stamp)) ss ≡ true → floor ss n ≡ 0
 floor-none n k [] h later = refl
 floor-none n k (s ∷ ss) h later =
-    let head = not (is_before k s.stamp) in
+    let head = not (is_later (At k) s.stamp) in
     let tail = list_all (λ t. not (is_later (At k) t.stamp)) ss in
     rw (floor-none n k ss h (second head tail later), floor-step s.stamp n k h (first head tail later)) refl
 

@@ -10,6 +10,7 @@
 -- For each place and word, `after_word` says what stands next, or why the word can't stand there. The filter of an event is
 -- the text behind the event's word.
 use Rattle.std.specs.Prelude.{ℕ, ◌==◌, ◌++◌, Bool, true, false, if◌then◌else◌, nat_lt, List, [], ◌∷◌, length, slice_index, codes, Option, Some, None, Result, Ok, Err}
+use Rattle.std.specs.Option.{option_map, option_or, unwrap_or}
 use Rattle.std.specs.Str.{bytes_eq}
 use Rattle.std.specs.Char.{is_ascii_alphabetic}
 use Rattle.number_text.specs.Numbers.{number_between}
@@ -17,7 +18,6 @@ use Rattle.native_filters.specs.declared.facts.Hook.{Hook}
 use Rattle.native_filters.specs.declared.facts.Hook.TheVariants.{Snd, Rcv}
 use Rattle.reassembly.specs.declared.answers.Policy.TheVariants.{First, Last}
 use Rattle.app_api.specs.Names.{event_named}
-use Rattle.app_api.specs.declared.registration.PeekSpec.{PeekSpec}
 use Rattle.app_api.specs.declared.registration.PeekSpec.TheVariants.{Nothing, Next as NextBytes, At as BytesAt}
 use Rattle.app_api.specs.declared.registration.Reg.{Reg}
 use Rattle.filter_lang.specs.declared.error.FilterError.{FilterError}
@@ -49,12 +49,6 @@ plain_reg number event hook = record {
   peek = Nothing;
   action = record { drop = false; changes = [] };
 }
-
-abbrev pub switched_off : Reg → Reg
-switched_off r = record r { on = false }
-
-abbrev pub peeking : Reg → PeekSpec → Reg
-peeking r peek = record r { peek = peek }
 
 abbrev pub dropping : Reg → Reg
 dropping r = record r { action = record { drop = true; changes = r.action.changes } }
@@ -121,17 +115,13 @@ go_with k (Some a) = go (k a)
 abbrev pub begins_with_letter : List ℕ → Bool
 begins_with_letter name = is_ascii_alphabetic (slice_index name 0)
 
--- a word that names no built-in event: a number, or a name that isn't known
-abbrev pub defined_next : (ℕ → AfterWord) → List ℕ → Option ℕ → AfterWord
-defined_next k w None = if begins_with_letter w then stop UnknownName else stop Syntax
-defined_next k w (Some n) = k n
+-- a word that is no event: a name that isn't known, or none
+abbrev pub unknown_event : List ℕ → AfterWord
+unknown_event w = if begins_with_letter w then stop UnknownName else stop Syntax
 
-abbrev pub event_next : (ℕ → AfterWord) → List ℕ → Option ℕ → AfterWord
-event_next k w None = defined_next k w (number_between 1 255 w)
-event_next k w (Some e) = k e
-
+-- an event: a built-in one by its name, or one of a number
 abbrev pub next_event : (ℕ → AfterWord) → List ℕ → AfterWord
-next_event k w = event_next k w (event_named w)
+next_event k w = unwrap_or (option_map k (option_or (event_named w) (number_between 1 255 w))) (unknown_event w)
 
 abbrev pub next_end : Stamped → List ℕ → AfterWord
 next_end s w = if length w == 0 then done s else stop Syntax
@@ -151,8 +141,8 @@ next_peeked st r w = word_or ((codes "do", go (action_place st r)) ∷ []) (next
 
 abbrev pub next_switched : Stamp → Reg → List ℕ → AfterWord
 next_switched st r w =
-    word_or ((codes "peek", go (number_place 1 256 (λ n. peeked_place st (peeking r (NextBytes n)))))
-    ∷ (codes "peekat", go (number_place 0 1099511627775 (λ off. number_place 1 256 (λ n. peeked_place st (peeking r (BytesAt off n))))))
+    word_or ((codes "peek", go (number_place 1 256 (λ n. peeked_place st (record r { peek = NextBytes n }))))
+    ∷ (codes "peekat", go (number_place 0 1099511627775 (λ off. number_place 1 256 (λ n. peeked_place st (record r { peek = BytesAt off n })))))
     ∷ []) (next_peeked st r w) w
 
 abbrev pub rule_place : Stamp → ℕ → Bool → WordPlace
@@ -187,7 +177,7 @@ after_word (parent_place st number) w = next_event (λ e. rest (λ f. stamped st
 after_word (event_place st number) w = next_event (λ e. go (hook_place st number e)) w
 after_word (hook_place st number event) w =
     word_of ((codes "snd", go (hooked_place st (plain_reg number event Snd))) ∷ (codes "rcv", go (hooked_place st (plain_reg number event Rcv))) ∷ []) w
-after_word (hooked_place st r) w = word_or ((codes "off", go (switched_place st (switched_off r))) ∷ []) (next_switched st r w) w
+after_word (hooked_place st r) w = word_or ((codes "off", go (switched_place st (record r { on = false }))) ∷ []) (next_switched st r w) w
 after_word (switched_place st r) w = next_switched st r w
 after_word (peeked_place st r) w = next_peeked st r w
 after_word (action_place st r) w = next_action st r w

@@ -1,6 +1,7 @@
 -- The lines of a text.
-use Rattle.std.specs.Prelude.{ℕ, Bool, true, ◌&&◌, ◌||◌, ◌==◌, ◌+◌, min, not, if◌then◌else◌, nat_le, List, [], ◌∷◌, Option, Some, None}
+use Rattle.std.specs.Prelude.{ℕ, Bool, true, ◌&&◌, ◌||◌, ◌==◌, ◌+◌, min, not, if◌then◌else◌, nat_le, List, [], ◌∷◌}
 use Rattle.std.specs.List.{find}
+use Rattle.std.specs.Option.{option_map, unwrap_or}
 use Rattle.filter_lang.specs.Tokens.{is_blank}
 
 -- a byte before a line's others
@@ -19,13 +20,9 @@ without_return [] = []
 without_return (b ∷ []) = if b == 13 then [] else b ∷ []
 without_return (b ∷ c ∷ bs) = b ∷ without_return (c ∷ bs)
 
-abbrev pub is_comment : Option ℕ → Bool
-is_comment None = true
-is_comment (Some b) = b == 35
-
 -- blanks alone, or `#` as the first other byte
 abbrev pub is_skipped : List ℕ → Bool
-is_skipped line = is_comment (find (λ b. not (is_blank b)) line)
+is_skipped line = unwrap_or (option_map (λ b. b == 35) (find (λ b. not (is_blank b)) line)) true
 
 -- printable ASCII, or a tab
 abbrev pub is_text : ℕ → Bool

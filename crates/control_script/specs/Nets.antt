@@ -1,5 +1,6 @@
 -- The nets and ports of rules, each one word.
 use Rattle.std.specs.Prelude.{ℕ, ◌+◌, ◌*◌, if◌then◌else◌, nat_le, List, Option, Some, None, codes}
+use Rattle.std.specs.Option.{option_map, unwrap_or}
 use Rattle.std.specs.Str.{bytes_eq}
 use Rattle.control_script.specs.declared.nets.Net.{Net}
 use Rattle.control_script.specs.declared.nets.Ports.{Ports}
@@ -32,10 +33,6 @@ span_of c =
 abbrev pub one_port : List ℕ → Option Ports
 one_port word = with (number_between 0 65535 word) (λ n. Some (record { low = n; high = n }))
 
-abbrev pub ports_in : List ℕ → Option (List ℕ × List ℕ) → Option Ports
-ports_in word None = one_port word
-ports_in word (Some c) = span_of c
-
 -- all ports, one, or those from one to another
 abbrev pub ports_of : List ℕ → Option Ports
-ports_of word = if bytes_eq word (codes "any") then Some (record { low = 0; high = 65535 }) else ports_in word (cut_at 45 word)
+ports_of word = if bytes_eq word (codes "any") then Some (record { low = 0; high = 65535 }) else unwrap_or (option_map span_of (cut_at 45 word)) (one_port word)

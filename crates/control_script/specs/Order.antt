@@ -10,13 +10,9 @@ abbrev pub commands_of : List Stamped → List Command
 commands_of script = map (λ s. s.command) script
 
 -- whether the first is `at k` and the second `at` with a lesser number
-abbrev pub is_before : ℕ → Stamp → Bool
-is_before k (At n) = nat_lt n k
-is_before k Live = false
-
 abbrev pub is_later : Stamp → Stamp → Bool
-is_later (At k) stamp = is_before k stamp
-is_later Live stamp = false
+is_later (At k) (At n) = nat_lt n k
+is_later _ _ = false
 
 -- no `at k` stands behind an `at` with a greater k
 abbrev pub are_in_order : List Stamped → Bool

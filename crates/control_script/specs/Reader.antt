@@ -1,11 +1,12 @@
 -- Only for proofs. What each function of the reader reads, as an equation between what the grammar says of the words before it and of
 -- those behind it.
-use Rattle.std.specs.Prelude.{◌≡◌, ℕ, ◌+◌, Bool, List, [], ◌∷◌, length, Result, Ok, Err}
+use Rattle.std.specs.Prelude.{◌≡◌, ◌≤◌, ℕ, ◌+◌, Bool, IsTrue, List, [], ◌∷◌, length, Option, IfSome, Result, Ok, Err, IfOk, IfErr}
 use Rattle.app_api.specs.declared.registration.Reg.{Reg}
 use Rattle.native_filters.specs.declared.facts.Hook.{Hook}
 use Rattle.reassembly.specs.declared.answers.Policy.{Policy}
 use Rattle.forest_versions.specs.declared.command.Command.TheVariants.{Register, Overlap}
 use Rattle.forest_versions.specs.declared.command.Stamp.{Stamp}
+use Rattle.forest_versions.specs.Lawful.{is_within}
 use Rattle.control_script.specs.declared.error.ScriptError.{ScriptError}
 use Rattle.control_script.specs.declared.nets.Net.{Net}
 use Rattle.control_script.specs.declared.nets.Ports.{Ports}
@@ -38,6 +39,18 @@ reads w p = line_from w.line (ahead w) p
 -- what the words behind the one that is looked at are after a step
 abbrev pub takes : Words → AfterWord → Result Stamped ScriptError
 takes w n = continued (line_from w.line (later w)) w.line w.rest.now n
+
+-- the command that a line, or the rest of one, says, with its numbers in their ranges; else the line's refusal
+pub record Says (line result : Result Stamped ScriptError) : Type 0 where
+  pub ok : IfOk result (λ s. line ≡ Ok s)
+  pub within : IfOk result (λ s. IsTrue (is_within s.command))
+  pub err : IfErr result (λ e. line ≡ Err e)
+
+-- the ports that a word names, from one to another that isn't less
+pub record FindsPorts (wanted found : Option Ports) : Type 0 where
+  pub ports : found ≡ wanted
+  pub rise : IfSome found (λ p. p.low ≤ p.high)
+  pub most : IfSome found (λ p. p.high ≤ 65535)
 
 pub record ReadsNumber (low high : ℕ) (old new : Words) (n : ℕ) : Type 0 where
   pub same : (k : ℕ → WordPlace) → reads old (number_place low high k) ≡ reads new (k n)

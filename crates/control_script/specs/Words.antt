@@ -11,12 +11,9 @@ pub record Word : Type 0 where
   pub text : List ℕ
   pub behind : List ℕ
 
-abbrev pub no_word : Word
-no_word = record { text = []; behind = [] }
-
 -- the words of a text whose first bytes, so many, belong to a word before. The end is an empty word
 abbrev pub words_behind : ℕ → List ℕ → List Word
-words_behind inside [] = no_word ∷ []
+words_behind inside [] = record { text = []; behind = [] } ∷ []
 words_behind (suc inside) (b ∷ bs) = words_behind inside bs
 words_behind zero (b ∷ bs) =
     if is_blank b then words_behind zero bs else

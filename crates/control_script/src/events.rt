@@ -1,11 +1,11 @@
 //! The names and numbers of events, and definitions of events.
 
-ghost use Rattle.std.specs.Prelude.{◌≡◌, ◌<◌, ℕ, None, Ok, Err, IfOk, IfErr, IsTrue, length};
+ghost use Rattle.std.specs.Prelude.{◌≡◌, ◌<◌, Ok, Err, IfOk, IfErr, IsTrue, length};
 ghost use Rattle.filter_lang.specs.Grammar.{filter};
 ghost use Rattle.filter_lang.specs.Shape.{Shape};
 ghost use Rattle.forest_versions.specs.Lawful.{may_be_event, is_within};
 ghost use Rattle.control_script.specs.declared.stamped.Stamped.{Stamped as StampedOf};
-ghost use Rattle.control_script.specs.Grammar.{AfterWord, number_place, under_place, begins_with_letter, defined_next, with_filter};
+ghost use Rattle.control_script.specs.Grammar.{number_place, under_place, begins_with_letter, unknown_event, with_filter};
 ghost use Rattle.control_script.specs.Reader.{reads, takes, ReadsEvent, RefusesEvent};
 ghost use Rattle.control_script.specs.Script.{IfRefused};
 
@@ -46,7 +46,7 @@ pub(crate) fn event(words: &Words<'_>) -> Result<u16, ScriptError>
 
 // Why a word is no event.
 fn unknown(words: &Words<'_>) -> ScriptError
-    ensures { (k : ℕ → AfterWord) → takes words.now (defined_next k words.now.word.now None) ≡ Err result }
+    ensures { takes words.now (unknown_event words.now.word.now) ≡ Err result }
 {
     if begins_with_letter(words.word) {
         ScriptError::UnknownName(words.line)

@@ -2,7 +2,7 @@
 
 ghost use Rattle.std.specs.Prelude.{◌≡◌, ◌≤◌, ◌<◌, IfSome, IfOk, IfErr, length};
 ghost use Rattle.control_script.specs.Nets.{address_of, net_of, one_port, ports_of, span_of};
-ghost use Rattle.control_script.specs.Reader.{ReadsNet, RefusesNet, ReadsPorts, RefusesPorts};
+ghost use Rattle.control_script.specs.Reader.{FindsPorts, ReadsNet, RefusesNet, ReadsPorts, RefusesPorts};
 
 use crate::cuts::cut_at;
 use crate::error::ScriptError;
@@ -61,9 +61,7 @@ fn net_of(word: &[u8]) -> Option<Net>
 
 // The ports that a word is.
 fn ports_of(word: &[u8]) -> Option<Ports>
-    ensures ports { result ≡ ports_of word.now }
-    ensures rise { IfSome result (λ p. p.low ≤ p.high) }
-    ensures most { IfSome result (λ p. p.high ≤ 65535) }
+    ensures ports { FindsPorts (ports_of word.now) result }
     ensures some { IfSome result (λ p. 0 < length word.now) }
 {
     if is(word, "any") {
@@ -80,9 +78,7 @@ fn ports_of(word: &[u8]) -> Option<Ports>
 
 // The port that a word is.
 fn one_port(word: &[u8]) -> Option<Ports>
-    ensures ports { result ≡ one_port word.now }
-    ensures rise { IfSome result (λ p. p.low ≤ p.high) }
-    ensures most { IfSome result (λ p. p.high ≤ 65535) }
+    ensures { FindsPorts (one_port word.now) result }
 {
     let port = number_in(0, 65535, word)?;
     Some(Ports {
@@ -93,9 +89,7 @@ fn one_port(word: &[u8]) -> Option<Ports>
 
 // The ports from one to another.
 fn span_of(low: &[u8], high: &[u8]) -> Option<Ports>
-    ensures ports { result ≡ span_of (low.now, high.now) }
-    ensures rise { IfSome result (λ p. p.low ≤ p.high) }
-    ensures most { IfSome result (λ p. p.high ≤ 65535) }
+    ensures { FindsPorts (span_of (low.now, high.now)) result }
 {
     let low = number_in(0, 65535, low)?;
     let high = number_in(0, 65535, high)?;

@@ -14,6 +14,13 @@ use app_api::{Action, Change1, Changes, MOST_CHANGES, PeekSpec, Reg};
 use forest_versions::{Command, Stamp};
 use native_filters::Hook;
 
+// A registration of a script, as far as its line is read: its numbers are in their ranges.
+#[derive(Clone, Copy)]
+struct ScriptReg {
+    reg: Reg,
+    ghost within: { IsTrue (is_reg_within reg) },
+}
+
 // Reads a hook.
 fn hook(words: &mut Words<'_>) -> Result<Hook, ScriptError>
     ensures ok { IfOk result (λ h. ReadsHook words.old words.new h) }
@@ -48,99 +55,95 @@ fn plain_reg(number: u8, event: u16, hook: Hook) -> Reg
 }
 
 // Reads `off`, if it stands there.
-fn off(words: &mut Words<'_>, reg: Reg) -> Reg
-    requires within { IsTrue (is_reg_within reg) }
-    ensures reads { ReadsOff words.old words.new reg result }
-    ensures within { IsTrue (is_reg_within result) }
+fn off(words: &mut Words<'_>, own: ScriptReg) -> ScriptReg
+    ensures { ReadsOff words.old words.new own.reg result.reg }
 {
     if words.is("off") {
         words.advance();
-        return Reg { on: false, ..reg };
+        let reg = Reg {
+            on: false,
+            ..own.reg
+        };
+        return ScriptReg { reg };
     }
-    reg
+    own
 }
 
 // Reads a peek, if one stands there.
-fn peek(words: &mut Words<'_>, reg: Reg) -> Result<Reg, ScriptError>
-    requires within { IsTrue (is_reg_within reg) }
-    ensures ok { IfOk result (λ r. ReadsPeek words.old words.new reg r) }
-    ensures within { IfOk result (λ r. IsTrue (is_reg_within r)) }
-    ensures err { IfErr result (λ e. RefusesPeek words.old reg e) }
+fn peek(words: &mut Words<'_>, own: ScriptReg) -> Result<ScriptReg, ScriptError>
+    ensures ok { IfOk result (λ r. ReadsPeek words.old words.new own.reg r.reg) }
+    ensures err { IfErr result (λ e. RefusesPeek words.old own.reg e) }
 {
     if words.is("peek") {
         words.advance();
         let len = number(words, 1, 256)? as u16;
-        return Ok(Reg {
+        let reg = Reg {
             peek: PeekSpec::Next { len },
-            ..reg
-        });
+            ..own.reg
+        };
+        return Ok(ScriptReg { reg });
     }
     if words.is("peekat") {
         words.advance();
         let off = number(words, 0, 1_099_511_627_775)?;
         let len = number(words, 1, 256)? as u16;
-        return Ok(Reg {
+        let reg = Reg {
             peek: PeekSpec::At { off, len },
-            ..reg
-        });
+            ..own.reg
+        };
+        return Ok(ScriptReg { reg });
     }
-    Ok(reg)
+    Ok(own)
 }
 
 // Reads an action.
-fn action(words: &mut Words<'_>, reg: Reg) -> Result<Reg, ScriptError>
-    requires within { IsTrue (is_reg_within reg) }
-    ensures ok { IfOk result (λ r. ReadsAction words.old words.new reg r) }
-    ensures within { IfOk result (λ r. IsTrue (is_reg_within r)) }
+fn action(words: &mut Words<'_>, own: ScriptReg) -> Result<ScriptReg, ScriptError>
+    ensures ok { IfOk result (λ r. ReadsAction words.old words.new own.reg r.reg) }
     ensures left { IfOk result (λ r. left words.new < left words.old) }
-    ensures err { IfErr result (λ e. RefusesAction words.old reg e) }
+    ensures err { IfErr result (λ e. RefusesAction words.old own.reg e) }
 {
     if words.is("drop") {
-        if reg.action.drop {
+        if own.reg.action.drop {
             return Err(ScriptError::Syntax(words.line));
         }
         words.advance();
-        return Ok(dropping(reg));
+        return Ok(dropping(own));
     }
     if words.is("on") {
-        return change(words, reg, true);
+        return change(words, own, true);
     }
     if words.is("off") {
-        return change(words, reg, false);
+        return change(words, own, false);
     }
     Err(ScriptError::Syntax(words.line))
 }
 
 // With a drop.
-fn dropping(reg: Reg) -> Reg
-    requires within { IsTrue (is_reg_within reg) }
-    ensures drops { result ≡ dropping reg }
-    ensures within { IsTrue (is_reg_within result) }
+fn dropping(own: ScriptReg) -> ScriptReg
+    ensures { result.reg ≡ dropping own.reg }
 {
-    Reg {
-        action: Action {
-            drop: true,
-            changes: reg.action.changes,
-        },
-        ..reg
+    let action = Action {
+        drop: true,
+        changes: own.reg.action.changes,
+    };
+    ScriptReg {
+        reg: Reg { action, ..own.reg },
     }
 }
 
 // With one change more.
-fn changing(reg: Reg, number: u8, on: bool) -> Reg
-    requires within { IsTrue (is_reg_within reg) }
-    requires room { length reg.action.changes < 4 }
+fn changing(own: ScriptReg, number: u8, on: bool) -> ScriptReg
+    requires room { length own.reg.action.changes < 4 }
     requires number { 0 < number }
-    ensures changes { result ≡ changing reg number on }
-    ensures within { IsTrue (is_reg_within result) }
+    ensures { result.reg ≡ changing own.reg number on }
 {
-    let changes = longer(&reg, Change1 { reg: number, on });
-    Reg {
-        action: Action {
-            drop: reg.action.drop,
-            changes,
-        },
-        ..reg
+    let changes = longer(&own.reg, Change1 { reg: number, on });
+    let action = Action {
+        drop: own.reg.action.drop,
+        changes,
+    };
+    ScriptReg {
+        reg: Reg { action, ..own.reg },
     }
 }
 
@@ -155,35 +158,31 @@ fn longer(reg: &Reg, change: Change1) -> Changes
 }
 
 // Reads a change, from its word on.
-fn change(words: &mut Words<'_>, reg: Reg, on: bool) -> Result<Reg, ScriptError>
-    requires within { IsTrue (is_reg_within reg) }
+fn change(words: &mut Words<'_>, own: ScriptReg, on: bool) -> Result<ScriptReg, ScriptError>
     requires some { 0 < length words.old.word.now }
-    ensures ok { IfOk result (λ r. ReadsChange on words.old words.new reg r) }
-    ensures within { IfOk result (λ r. IsTrue (is_reg_within r)) }
+    ensures ok { IfOk result (λ r. ReadsChange on words.old words.new own.reg r.reg) }
     ensures left { IfOk result (λ r. left words.new < left words.old) }
-    ensures err { IfErr result (λ e. RefusesChange on words.old reg e) }
+    ensures err { IfErr result (λ e. RefusesChange on words.old own.reg e) }
 {
-    if reg.action.changes.as_slice().len() >= MOST_CHANGES {
+    if own.reg.action.changes.as_slice().len() >= MOST_CHANGES {
         return Err(ScriptError::Syntax(words.line));
     }
     words.advance();
     let number = number(words, 1, 255)?;
-    Ok(changing(reg, number as u8, on))
+    Ok(changing(own, number as u8, on))
 }
 
 // Reads `do` and one action or more, if it stands there, to the end.
-fn actions(words: &mut Words<'_>, reg: Reg) -> Result<Reg, ScriptError>
-    requires within { IsTrue (is_reg_within reg) }
-    ensures ok { IfOk result (λ r. ReadsActions words.old reg r) }
-    ensures within { IfOk result (λ r. IsTrue (is_reg_within r)) }
-    ensures err { IfErr result (λ e. RefusesActions words.old reg e) }
+fn actions(words: &mut Words<'_>, own: ScriptReg) -> Result<ScriptReg, ScriptError>
+    ensures ok { IfOk result (λ r. ReadsActions words.old own.reg r.reg) }
+    ensures err { IfErr result (λ e. RefusesActions words.old own.reg e) }
 {
     if !words.is("do") {
         end(words)?;
-        return Ok(reg);
+        return Ok(own);
     }
     words.advance();
-    let mut next = action(words, reg)?;
+    let mut next = action(words, own)?;
     'actions: while !words.is_end() {
         next = action(words, next)?;
     }
@@ -201,11 +200,12 @@ pub(crate) fn registration(words: &mut Words<'_>, stamp: Stamp) -> Result<Stampe
     let event = event(words)?;
     words.advance();
     let hook = hook(words)?;
-    let reg = off(words, plain_reg(number as u8, event, hook));
-    let reg = peek(words, reg)?;
-    let reg = actions(words, reg)?;
+    let reg = plain_reg(number as u8, event, hook);
+    let own = off(words, ScriptReg { reg });
+    let own = peek(words, own)?;
+    let own = actions(words, own)?;
     Ok(Stamped {
         stamp,
-        command: Command::Register(reg),
+        command: Command::Register(own.reg),
     })
 }

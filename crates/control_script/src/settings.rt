@@ -3,7 +3,7 @@
 ghost use Rattle.std.specs.Prelude.{◌≡◌, ◌≤◌, ◌<◌, Ok, Err, IfOk, IfErr, OnOk, IsTrue};
 ghost use Rattle.forest_versions.specs.Lawful.{is_within};
 ghost use Rattle.control_script.specs.Grammar.{number_place, verb_place, end_place, stamped, settings, word_of};
-ghost use Rattle.control_script.specs.Reader.{reads, takes, left, ReadsNumber, RefusesNumber, Ends, RefusesEnd, ReadsPolicy, RefusesPolicy, ReadsVerb, RefusesVerb};
+ghost use Rattle.control_script.specs.Reader.{reads, takes, Says, left, ReadsNumber, RefusesNumber, Ends, RefusesEnd, ReadsPolicy, RefusesPolicy, ReadsVerb, RefusesVerb};
 
 use crate::error::ScriptError;
 use crate::nets::{read_net, read_ports};
@@ -49,9 +49,7 @@ pub(crate) fn end(words: &Words<'_>) -> Result<(), ScriptError>
 // A command that ends its line.
 fn ended(words: &Words<'_>, stamp: Stamp, command: Command) -> Result<Stamped, ScriptError>
     requires within { IsTrue (is_within command) }
-    ensures ok { IfOk result (λ s. reads words.now (end_place (stamped stamp command)) ≡ Ok s) }
-    ensures within { IfOk result (λ s. IsTrue (is_within s.command)) }
-    ensures err { IfErr result (λ e. reads words.now (end_place (stamped stamp command)) ≡ Err e) }
+    ensures { Says (reads words.now (end_place (stamped stamp command))) result }
 {
     end(words)?;
     Ok(Stamped { stamp, command })
@@ -60,9 +58,7 @@ fn ended(words: &Words<'_>, stamp: Stamp, command: Command) -> Result<Stamped, S
 /// One of the commands of one number, or `policy`.
 #[tactic(auto, unfolding(forest_versions::specs::Lawful::is_within))]
 pub(crate) fn setting(words: &mut Words<'_>, stamp: Stamp) -> Result<Stamped, ScriptError>
-    ensures ok { IfOk result (λ s. takes words.old (word_of (settings stamp) words.old.word.now) ≡ Ok s) }
-    ensures within { IfOk result (λ s. IsTrue (is_within s.command)) }
-    ensures err { IfErr result (λ e. takes words.old (word_of (settings stamp) words.old.word.now) ≡ Err e) }
+    ensures { Says (takes words.old (word_of (settings stamp) words.old.word.now)) result }
 {
     if words.is("unreg") {
         words.advance();

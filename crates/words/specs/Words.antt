@@ -1,11 +1,11 @@
 -- The words after the program's name: which of them are accepted, and what they choose.
-use Rattle.std.specs.Prelude.{◌≡◌, ℕ, Bool, true, false, not, ◌&&◌, ◌==◌, if◌then◌else◌, nat_le, List, [], ◌∷◌, ◌++◌, map, length, find, codes, Option, Some, None, option_map, option_and_then, Result, IfErr, String, string_bytes}
+use Rattle.std.specs.Prelude.{◌≡◌, ℕ, Bool, true, false, not, ◌&&◌, ◌==◌, if◌then◌else◌, nat_le, List, [], ◌∷◌, ◌++◌, map, length, find, codes, Option, Some, None, option_map, option_and_then, unwrap_or, Result, IfErr, String, string_bytes}
 use Rattle.std.specs.List.{list_all, list_any, before_first, after_first}
 use Rattle.std.specs.Borrow.{Bor}
 use Rattle.std.specs.Str.{bytes_eq}
 use Rattle.number_text.specs.Numbers.{number_between}
 use Rattle.applications.specs.Apps.{kind_named}
-use Rattle.words.specs.Offers.{emits, most_workers, most_made}
+use Rattle.words.specs.Offers.{emits}
 use Rattle.applications.specs.declared.apps.AppKind.{AppKind}
 use Rattle.applications.specs.declared.apps.AppKind.TheVariants.{Log}
 use Rattle.words.specs.declared.settings.Emit.{Emit}
@@ -43,13 +43,8 @@ with_item n v = option_map (λ items. record { name = n; value = v } ∷ items)
 
 -- the items from an option on: those further on, with one more where the option has its value, or those
 -- of the words where its name awaits its value
-abbrev pub begun_with : List ℕ → Option (List ℕ) → Option (List Item) → (List ℕ → Option (List Item)) → Option (List Item)
-begun_with n None further awaits = awaits n
-begun_with n (Some v) further awaits = with_item n v further
-
 abbrev pub begun : Option (List ℕ × Option (List ℕ)) → Option (List Item) → (List ℕ → Option (List Item)) → Option (List Item)
-begun None further awaits = None
-begun (Some p) further awaits = begun_with p.0 p.1 further awaits
+begun option further awaits = option_and_then (λ p. unwrap_or (option_map (λ v. with_item p.0 v further) p.1) (awaits p.0)) option
 
 -- the items of the words, where a name may wait for its value
 abbrev pub items_from : Option (List ℕ) → List (List ℕ) → Option (List Item)
@@ -100,8 +95,9 @@ read_or default read (Some text) = read text
 abbrev pub app_of : Option (List ℕ) → Option AppKind
 app_of = read_or Log kind_named
 
+-- 1 to 16
 abbrev pub workers_of : Option (List ℕ) → Option ℕ
-workers_of = read_or 1 (number_between 1 most_workers)
+workers_of = read_or 1 (number_between 1 16)
 
 -- a script's name has at most 255 bytes
 abbrev pub script_of : Option (List ℕ) → Option (Option (List ℕ))
@@ -113,8 +109,9 @@ emit_of emit None = read_or Report (named_in emits) emit
 emit_of None (Some made) = Some Summary
 emit_of (Some emit) (Some made) = None
 
+-- 1 to 100,000 connections of a made capture
 abbrev pub make_of : Option (List ℕ) → Option (Option ℕ)
-make_of = read_or None (λ text. option_map (λ n. Some n) (number_between 1 most_made text))
+make_of = read_or None (λ text. option_map (λ n. Some n) (number_between 1 100000 text))
 
 -- the settings, where each value makes a choice
 abbrev pub settings_of : (List ℕ → Option (List ℕ)) → Option Settings

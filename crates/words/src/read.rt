@@ -2,7 +2,7 @@
 
 ghost use Rattle.std.specs.Prelude.{◌≡◌, ◌≤◌, IfOk, IfSome, Some, None};
 ghost use Rattle.clap.specs.Words.{first_value, found_of};
-ghost use Rattle.words.specs.Words.{UsageMeansNone, chosen_by, given, is_value, settings_of};
+ghost use Rattle.words.specs.Words.{UsageMeansNone, chosen_by, given, is_value};
 ghost use Rattle.words.specs.Found.{all_pass, passes};
 
 use crate::parse::{has_dashes, parsed};
@@ -27,7 +27,20 @@ pub fn read_words(alloc: Global, words: &[String]) -> Result<Settings, WordsErro
     if !all_pass(&matches) {
         return Err(WordsError::Usage);
     }
-    settings(alloc, &matches)
+    let app = app_of(matches.get_str("app")).ok_or(WordsError::Usage)?;
+    let workers = workers_of(matches.get_str("workers")).ok_or(WordsError::Usage)?;
+    let script = script_of(alloc, matches.get_str("script"))?;
+    let emit = matches.get_str("emit");
+    let make = matches.get_str("make");
+    let emit = emit_of(emit, make).ok_or(WordsError::Usage)?;
+    let make = make_of(make).ok_or(WordsError::Usage)?;
+    Ok(Settings {
+        app,
+        workers,
+        script,
+        emit,
+        make,
+    })
 }
 
 // Whether each option that was found has a value: no value is empty or begins with a dash.
@@ -54,27 +67,4 @@ fn is_value(bytes: &[u8]) -> bool
     ensures { result ≡ is_value bytes.now }
 {
     !bytes.is_empty() && bytes[0] != b'-'
-}
-
-// What the five values choose.
-fn settings(alloc: Global, matches: &ArgMatches<'_>) -> Result<Settings, WordsError>
-    ensures ok { IfOk result (λ s. settings_of (first_value (found_of matches.now)) ≡ Some s) }
-    ensures workers { IfOk result (λ s. (1 ≤ s.workers) × (s.workers ≤ 16)) }
-    ensures few { IfOk result (λ s. IfSome s.make (λ n. n ≤ 100000)) }
-    ensures usage { UsageMeansNone result (settings_of (first_value (found_of matches.now))) }
-{
-    let app = app_of(matches.get_str("app")).ok_or(WordsError::Usage)?;
-    let workers = workers_of(matches.get_str("workers")).ok_or(WordsError::Usage)?;
-    let script = script_of(alloc, matches.get_str("script"))?;
-    let emit = matches.get_str("emit");
-    let make = matches.get_str("make");
-    let emit = emit_of(emit, make).ok_or(WordsError::Usage)?;
-    let make = make_of(make).ok_or(WordsError::Usage)?;
-    Ok(Settings {
-        app,
-        workers,
-        script,
-        emit,
-        make,
-    })
 }
