@@ -69,7 +69,7 @@ returns-clause-stays g c =
             (edited_forest c.defs-defs.result.now at r list c.args.change.on new here there.known
             (λ d l f. subst (λ (t : TreeLists). t.slots ≡ map slot_of l) same (c.slots_in_order-2.ensures.slots d l (subst (λ (t : TreeLists). IsForestOf d l (listing t)) (sym same) f))) after);
       };
-      kept = c.edit.ensures.kept;
+      kept = c.edit.ensures.stored.kept;
     }
 
 pub returns-clause-made : goal.returns-clause-made
