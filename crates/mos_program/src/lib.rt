@@ -1,5 +1,6 @@
 //! The program `mos` but for its streams: `run_program` makes the book of native filters, calls `run_gathered` over any words,
 //! streams and shelf, and gives the exit code; `run_process` hands it the words of the process and the current folder.
+//! `run_own_program` and `run_own_process` are the same with an application of one's own.
 //!
 //! Contract: the clauses of `run_gathered`, and the exit code is the status. Words that can't be read end it with status 1 or
 //! 6, and nothing but the error output is touched.
@@ -11,7 +12,7 @@ ghost use Rattle.std.specs.Prelude.{◌≡◌, ◌⊎◌, map, Some, IfOk, IsErr
 ghost use Rattle.std.specs.Process.{exit_status};
 ghost use Rattle.words.specs.Own.{own_settings};
 ghost use Rattle.mos_run.specs.Request.{Request, request_for, request_of};
-ghost use Rattle.mos_run.specs.Run.{FinishesUnder, MosRun, Promised, TellsOf, outside};
+ghost use Rattle.mos_run.specs.Run.{FinishesUnder, MosRun, Promised, RefusesWords, outside};
 
 use app_api::App;
 use mos_bytes::{FolderShelf, ReadSource, Shelf, Sink, Source, WriteSink};
@@ -104,10 +105,8 @@ pub fn run_program<
     ensures ran { IfOk words (λ words. MosRun S.Source H.Shelf O.Sink E.Sink (map string_bytes words.items)
         (outside capture.old shelf.old out err.old) (outside capture.new shelf.new result.out err.new) result.ended) }
     // Else nothing but `err` is touched.
-    ensures unread { IsErr words → ((result.ended.status ≡ 1) ⊎ (result.ended.status ≡ 6))
-        × (capture.new ≡ capture.old) × (shelf.new ≡ shelf.old) × (result.out ≡ out) }
-    ensures told { IsErr words → (e : RunError) × ((e ≡ RunError.Usage) ⊎ (e ≡ RunError.NoMemory))
-        × TellsOf e result.ended.status (E.taken err.old) (E.taken err.new) (E.faults err.old) (E.faults err.new) }
+    ensures unread { IsErr words → RefusesWords S.Source H.Shelf O.Sink E.Sink
+        (outside capture.old shelf.old out err.old) (outside capture.new shelf.new result.out err.new) result.ended.status }
 {
     let alloc = rt.alloc();
     let natives = natives!();
@@ -157,10 +156,8 @@ pub fn run_own_program<
         (own_settings (map string_bytes words.items))
         (outside capture.old shelf.old out err.old) (outside capture.new shelf.new result.out err.new) result.ended) }
     // Else nothing but `err` is touched.
-    ensures unread { IsErr words → ((result.ended.status ≡ 1) ⊎ (result.ended.status ≡ 6))
-        × (capture.new ≡ capture.old) × (shelf.new ≡ shelf.old) × (result.out ≡ out) }
-    ensures told { IsErr words → (e : RunError) × ((e ≡ RunError.Usage) ⊎ (e ≡ RunError.NoMemory))
-        × TellsOf e result.ended.status (E.taken err.old) (E.taken err.new) (E.faults err.old) (E.faults err.new) }
+    ensures unread { IsErr words → RefusesWords S.Source H.Shelf O.Sink E.Sink
+        (outside capture.old shelf.old out err.old) (outside capture.new shelf.new result.out err.new) result.ended.status }
 {
     let alloc = rt.alloc();
     let natives = natives!();
@@ -206,13 +203,22 @@ pub fn run_process<
     let mut capture = ReadSource::new(input);
     let mut shelf = FolderShelf::new(rt);
     let mut err = WriteSink::new(err);
-    run_program(
-        &rt,
-        words,
-        &mut capture,
-        &mut shelf,
-        WriteSink::new(out),
-        &mut err,
-    )
-    .code
+    let out = WriteSink::new(out);
+    run_program(&rt, words, &mut capture, &mut shelf, out, &mut err).code
+}
+
+/// The same with an application of anybody's: all that the `main` of a program of one's own has to call.
+pub fn run_own_process<
+    R: AllocGlobal + Env + Files + Threads + Wait + Sync + Send + Copy + Drop + 'static,
+    A: App + Copy + Send + Sync + Drop,
+    I: Read + Drop,
+    O: Write + Drop,
+    E: Write + Drop,
+>(rt: R, app: A, input: I, out: O, err: E) -> ExitCode {
+    let words = words_given(&rt);
+    let mut capture = ReadSource::new(input);
+    let mut shelf = FolderShelf::new(rt);
+    let mut err = WriteSink::new(err);
+    let out = WriteSink::new(out);
+    run_own_program(&rt, app, words, &mut capture, &mut shelf, out, &mut err).code
 }

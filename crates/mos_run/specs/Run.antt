@@ -9,7 +9,7 @@ use Rattle.words.specs.Words.{words_settings}
 use Rattle.words.specs.declared.settings.Settings.{Settings}
 use Rattle.mos_run.specs.declared.ended.Ended.{Ended}
 use Rattle.mos_run.specs.declared.refusal.RunError.{RunError}
-use Rattle.mos_run.specs.declared.refusal.RunError.TheVariants.{NoMemory}
+use Rattle.mos_run.specs.declared.refusal.RunError.TheVariants.{NoMemory, Usage}
 use Rattle.capture_replay.specs.declared.output.Output.TheVariants.{Report}
 use Rattle.capture_replay.specs.Records.{packets_with}
 use Rattle.capture_replay.specs.Outcome.{Outcome, is_forward, output_of}
@@ -155,3 +155,10 @@ module _ {S H O E : Type 0} (source : Source S) (shelf : Shelf H) (sink : Sink O
   -- what a run of mos under these words promises: they choose the application, too
   abbrev pub MosRun : List (List ℕ) → Outside S H O E → Outside S H O E → Ended → Type 0
   MosRun words = Promised (app_in (words_settings words)) (words_settings words)
+
+  -- Words that can't be read are refused, or memory is, and nothing but err is touched.
+  pub record RefusesWords (old new : Outside S H O E) (status : ℕ) : Type 0 where
+    pub which : (status ≡ 1) ⊎ (status ≡ 6)
+    pub untouched : (new.capture ≡ old.capture) × (new.shelf ≡ old.shelf) × (new.out ≡ old.out)
+    pub told : (e : RunError) × ((e ≡ Usage) ⊎ (e ≡ NoMemory))
+        × TellsOf e status (err.taken old.err) (err.taken new.err) (err.faults old.err) (err.faults new.err)

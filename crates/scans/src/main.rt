@@ -8,15 +8,9 @@ mod knocks;
 mod laws;
 
 use knocks::Scans;
-use mos_bytes::{FolderShelf, ReadSource, WriteSink};
-use mos_program::{run_own_program, words_given};
+use mos_program::run_own_process;
 use std::process::ExitCode;
 
 fn main(rt: HostRuntime) -> ExitCode {
-    let words = words_given(&rt);
-    let mut capture = ReadSource::new(rt.stdin());
-    let mut shelf = FolderShelf::new(rt);
-    let mut err = WriteSink::new(rt.stderr());
-    let out = WriteSink::new(rt.stdout());
-    run_own_program(&rt, Scans, words, &mut capture, &mut shelf, out, &mut err).code
+    run_own_process(rt, Scans, rt.stdin(), rt.stdout(), rt.stderr())
 }
