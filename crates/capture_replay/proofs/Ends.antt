@@ -8,7 +8,7 @@ use Rattle.pcap_source.specs.declared.errors.NextError.{NextError}
 use Rattle.pcap_source.specs.declared.errors.NextError.TheVariants as Next
 use Rattle.pcap_source.specs.declared.errors.OpenError.{OpenError}
 use Rattle.pcap_source.specs.declared.errors.OpenError.TheVariants as Open
-use Rattle.worker_pool.specs.Source.{EndsInTail}
+use Rattle.worker_pool.specs.Source.{EndsInTail, ReadsOn}
 use Rattle.worker_pool.specs.declared.job.PoolError.{PoolError}
 use Rattle.worker_pool.specs.declared.job.PoolError.TheVariants as Pool
 use Rattle.capture_replay.specs.declared.output.Output.{Output}
@@ -17,7 +17,7 @@ use Rattle.capture_replay.specs.declared.refusal.ReplayError.TheVariants as Repl
 use Rattle.capture_replay.specs.Outcome.{is_forward}
 use Rattle.capture_replay.specs.Reading.{Replaying, behind}
 use Rattle.capture_replay.specs.Refusal.{header_refusal, pool_refusal, record_refusal}
-use Rattle.capture_replay.specs.Runs.{AreUnrefused, ReadsFile}
+use Rattle.capture_replay.specs.Runs.{AreUnrefused, IsIdle, ReadsFile}
 use Rattle.capture_replay.proofs.Replaying.{StepTold}
 
 pub err_same : {T : Type 0} (a b : ReplayError) → IsErrOf {T = T} (Err a) b → a ≡ b
@@ -138,3 +138,25 @@ cut_record bytes left after old new frames frame Next.NoMemory r step is none = 
 -- in a run on lanes
 pub cut_lanes : (bytes : List ℕ) (left : Option (List ℕ)) (capture : CaptureState) → (r : Replaying bytes left capture []) → EndsInTail (frames_at capture r.rest) → AreUnrefused bytes
 cut_lanes bytes left capture r tail = inr (behind [] (frames_at capture r.rest), r.holds, tail)
+
+-- ---- how far a run has read that stopped
+
+-- at the global header
+pub reads_header : {S O : Type 0} (source : Source S) (output : Output) (s t : S) (o : O) (e : OpenError) → OpenGives (source.left s) (source.left t) (Err e)
+    → ReadsFile source output (λ bytes. source.left s ≡ Some bytes) t (IsIdle o o (Err (header_refusal e))) (Err (header_refusal e))
+reads_header source output s t o e gives =
+    reads_refused source output _ t _ (header_refusal e) (no_heavy_header e) (λ kept. (refl, λ fault. no_write_header e (err_same (header_refusal e) Replay.WriteFault fault)))
+    (λ is bytes told none. cut_header (source.left s) (source.left t) bytes e gives is told none)
+
+-- on lanes
+pub reads_lanes : {S whole fault : Type 0} (source : Source S) (output : Output) (s t u : S) (capture : CaptureState) (idle : Type 0) (e : PoolError)
+    → ReadsOn source capture t u whole fault → (e ≡ Pool.Heavy → whole) → (e ≡ Pool.ReadFault → fault) → (is_forward output ≡ false → idle)
+    → ((bytes : List ℕ) → source.left s ≡ Some bytes → Replaying bytes (source.left t) capture [])
+    → ReadsFile source output (λ bytes. source.left s ≡ Some bytes) u idle (Err (pool_refusal e))
+reads_lanes source output s t u capture idle e reads heavy fault still replays = record {
+  ended = λ which. reads.ended (heavy (pool_heavy e (heavy_of _ (pool_refusal e) which)));
+  begun = λ kept. inl (still kept);
+  cut = λ is bytes told none.
+      let rep = replays bytes told in
+      cut_lanes bytes (source.left t) capture rep (reads.cut (fault (pool_read_fault e (err_same (pool_refusal e) Replay.ReadFault is))) rep.rest rep.told none);
+}

@@ -2,35 +2,27 @@
 use Rattle.std.proofs.Common.{◌≡◌, ℕ, zero, suc, ◌+◌, ◌-◌, ◌≤◌, Option, Some, None, List, [], ◌∷◌, ◌++◌, length, take, drop, Ok, refl, sym, ap, subst, ◌∙◌, ◌≢◌, inl, inr, arith, append_assoc, length-append, length-take-le}
 use Rattle.std.specs.Prelude.{◌⊎◌}
 use Rattle.std.specs.Io.{StartsWith}
-use Rattle.std.specs.Io.KnownBytes.{Appends}
-use Rattle.std.proofs.KnownBytes.{Appends-trans, starts_with_rest}
+use Rattle.std.proofs.KnownBytes.{starts_with_rest}
 use Rattle.std.proofs.Math.Seq.{drop-nil, take-append_seam, drop-append_seam}
 use Rattle.std.proofs.lemmas.List.{take-append-drop, take_all, length-drop}
 use Rattle.mos_bytes.specs.Reads.{BeginsWith}
-use Rattle.mos_bytes.specs.declared.source.Source.{Ghosts as Source}
-use Rattle.mos_bytes.specs.declared.sink.Sink.{Ghosts as Sink}
-use Rattle.app_api.specs.App.{Meaning}
 use Rattle.pcap_source.specs.Captured.{Captured}
 use Rattle.pcap_source.specs.Capture.{record_at, with_frame}
 use Rattle.pcap_source.specs.InPlace.{IsPassed, TakesInPlace}
 use Rattle.pcap_source.specs.declared.capture.WholeRecord.{WholeRecord}
 use Rattle.pcap_source.specs.Reading.{CaptureState, frames_at}
 use Rattle.pcap_source.specs.declared.capture.Step.TheVariants.{Frame}
-use Rattle.control_script.specs.declared.stamped.Stamped.{Stamped}
 use Rattle.lane_core.specs.Sight.{Moment, arrivals}
-use Rattle.lane_core.specs.declared.recorder.Recorder.{Ghosts as Recorder}
 use Rattle.run_outcome.specs.Greatest.{greatest, greatest_from, later_of}
 use Rattle.pcap_source.specs.declared.errors.NextError.{NextError}
 use Rattle.pcap_source.specs.declared.errors.NextError.TheVariants as Next
-use Rattle.capture_replay.specs.declared.output.Output.{Output}
 use Rattle.capture_replay.specs.declared.refusal.ReplayError.{ReplayError}
 use Rattle.capture_replay.specs.declared.refusal.ReplayError.TheVariants as Replay
 use Rattle.capture_replay.specs.Refusal.{record_refusal}
 use Rattle.capture_replay.specs.Runs.{StopsAs}
-use Rattle.capture_replay.specs.Records.{packets_of}
-use Rattle.capture_replay.specs.Outcome.{Outcome, streamed}
-use Rattle.capture_replay.specs.Reading.{IsSeen, ReadsOn, Replaying, RunsOn, gained, left_behind}
-use Rattle.capture_replay.proofs.Replaying.{StepTold, replayed, streamed_last}
+use Rattle.capture_replay.specs.Outcome.{Outcome}
+use Rattle.capture_replay.specs.Reading.{IsSeen, Replaying, left_behind}
+use Rattle.capture_replay.proofs.Replaying.{StepTold}
 
 -- ---- the greatest moment
 
@@ -113,66 +105,6 @@ seen_behind old new front at whole taken =
     subst (λ bytes. IsSeen (record_at old.order (drop at front)) (record { seconds = whole.seconds; fraction = whole.fraction }) (take 16 there) bytes) (sym (from_place 16 there))
     (subst (λ f. IsSeen (record_at old.order f) (record { seconds = whole.seconds; fraction = whole.fraction }) (take 16 there) (drop 16 there)) (from_place at front)
     (seen_here old new (take (length front - at) (drop at front)) whole taken))
-
-module _ (app : Meaning) (script : List Stamped) (output : Output) where
-  pub reads_none : (capture : CaptureState) (taken left : Option (List ℕ)) (frames : List Captured)
-      → ReadsOn app script output capture capture taken taken left (left_behind 0 left) frames frames
-  reads_none capture taken None frames = record { written = λ before w. w; replays = λ bytes r. r }
-  reads_none capture taken (Some left) frames = record { written = λ before w. w; replays = λ bytes r. r }
-
-  pub reads_one_more : (first old new : CaptureState) (start mid now left : Option (List ℕ)) (front : List ℕ) (at n : ℕ) (frames all : List Captured) (frame : Captured)
-      → BeginsWith left front → at ≤ length front
-      → ((l : List ℕ) → StartsWith l (drop at front) → frames_at old l ≡ with_frame frame (frames_at new (drop n l)))
-      → new.header ≡ old.header → Appends mid now (gained app script output all frame)
-      → ReadsOn app script output first old start mid left (left_behind at left) frames all
-      → ReadsOn app script output first new start now left (left_behind (at + n) left) frames (all ++ frame ∷ [])
-  reads_one_more first old new start mid now left front at n frames all frame begins within gives header more so_far = record {
-    written = λ before w.
-        subst (λ h. Appends before now (streamed app script (packets_of script) output h (all ++ frame ∷ []))) (sym header)
-        (subst (Appends before now) (sym (streamed_last app script output old.header all frame))
-        (Appends-trans before mid now _ _ (so_far.written before w) more));
-    replays = λ bytes r.
-        let rep = so_far.replays bytes r in
-        replayed bytes _ _ old new all frame rep (told_in left front at n old new frame rep.rest begins within gives rep.told) header;
-  }
-
-  pub reads_trans : (one two three : CaptureState) (a b c x y z : Option (List ℕ)) (frames some all : List Captured)
-      → ReadsOn app script output one two a b x y frames some → ReadsOn app script output two three b c y z some all
-      → ReadsOn app script output one three a c x z frames all
-  reads_trans one two three a b c x y z frames some all first next = record {
-    written = λ before w. next.written before (first.written before w);
-    replays = λ bytes r. next.replays bytes (first.replays bytes r);
-  }
-
--- ---- a run that goes on
-
-module _ {L S O : Type 0} (lanes : Recorder L) (sources : Source S) (sinks : Sink O) (script : List Stamped) (output : Output) where
-  abbrev On : L → CaptureState → ℕ → Option Moment → S → O → L → CaptureState → ℕ → Option Moment → S → O → Type 0
-  On = RunsOn lanes sources sinks script output
-
-  pub on_and_on : (l : L) (c : CaptureState) (n : ℕ) (m : Option Moment) (s : S) (o : O) (l' : L) (c' : CaptureState) (n' : ℕ) (m' : Option Moment) (s' : S) (o' : O)
-      (l'' : L) (c'' : CaptureState) (n'' : ℕ) (m'' : Option Moment) (s'' : S) (o'' : O)
-      → On l c n m s o l' c' n' m' s' o' → On l' c' n' m' s' o' l'' c'' n'' m'' s'' o'' → On l c n m s o l'' c'' n'' m'' s'' o''
-  on_and_on l c n m s o l' c' n' m' s' o' l'' c'' n'' m'' s'' o'' first next = record {
-    live = next.live;
-    count = next.count;
-    few = next.few;
-    rises = let a = first.rises in let b = next.rises in omega (arith, a, b);
-    header = next.header ∙ first.header;
-    app = next.app ∙ first.app;
-    ready = next.ready;
-    keeps = next.keeps ∙ first.keeps;
-    silent = λ is. next.silent is ∙ first.silent is;
-    source_faults = let a = first.source_faults in let b = next.source_faults in omega (arith, a, b);
-    out_faults = let a = first.out_faults in let b = next.out_faults in omega (arith, a, b);
-    source_lasts = next.source_lasts ∙ first.source_lasts;
-    out_lasts = next.out_lasts ∙ first.out_lasts;
-    come = λ frames here.
-        let some = first.come frames here in
-        let more = next.come some.0 some.1 in
-        let reads = subst (λ a. ReadsOn a script output c' c'' (sinks.taken o') (sinks.taken o'') (sources.left s') (sources.left s'') some.0 more.0) first.app more.2 in
-        (more.0, more.1, reads_trans (lanes.app l) script output c c' c'' _ _ _ _ _ _ frames some.0 more.0 some.2 reads);
-  }
 
 -- ---- what was walked over is passed over
 

@@ -11,3 +11,4 @@ mod Passed
 pub mod Typed
 mod ReadBack
 pub mod InPlace
+pub mod Onward

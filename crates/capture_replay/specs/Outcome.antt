@@ -25,15 +25,11 @@ use Rattle.capture_replay.specs.Refusal.{header_refusal}
 
 -- ---- what is written
 
-abbrev pub emitted : Emit → Output
-emitted Emit.Report = Report
-emitted Emit.Forward = Forward
-emitted Emit.Summary = Report
-
--- the summary of a capture that is made, else what is emitted
+-- the summary of a capture that is made, else the capture without its dropped packets, or the report
 abbrev pub output_by : Option ℕ → Emit → Output
-output_by None emit = emitted emit
 output_by (Some n) emit = Summary n
+output_by None Emit.Forward = Forward
+output_by None emit = Report
 
 abbrev pub output_of : Settings → Output
 output_of s = output_by s.make s.emit

@@ -1,8 +1,10 @@
 -- Only for proofs. What a run has come to after the frames of a capture, under a script.
-use Rattle.std.specs.Prelude.{◌≡◌, ◌≢◌, ℕ, ◌<◌, ◌≤◌, Bool, true, false, not, ◌&&◌, List, [], ◌++◌, length, take, drop, nat_lt, if◌then◌else◌, Option, None, Some, Ok}
+use Rattle.std.specs.Prelude.{◌≡◌, ◌≢◌, ℕ, ◌<◌, ◌≤◌, Bool, true, false, not, ◌&&◌, List, [], ◌++◌, length, take, drop, nat_lt, if◌then◌else◌, Option, None, Some, Result, Ok, Err, IfErr, IsErr, IsErrOf, IsOk, IsTrue}
 use Rattle.std.specs.Io.KnownBytes.{Appends}
 use Rattle.mos_bytes.specs.declared.source.Source.{Ghosts as Source}
 use Rattle.mos_bytes.specs.declared.sink.Sink.{Ghosts as Sink}
+use Rattle.mos_bytes.specs.declared.failed.Failed.{Failed}
+use Rattle.mos_bytes.specs.Outside.{Reads, Writes}
 use Rattle.app_api.specs.App.{Meaning}
 use Rattle.pcap_source.specs.Captured.{Captured}
 use Rattle.pcap_source.specs.Capture.{Frames, capture_of}
@@ -19,10 +21,16 @@ use Rattle.lane_core.specs.Shown.{weight}
 use Rattle.lane_core.specs.Lane.{IsAfter}
 use Rattle.lane_core.specs.declared.recorder.Recorder.{Ghosts as Recorder}
 use Rattle.capture_replay.specs.declared.output.Output.{Output}
+use Rattle.capture_replay.specs.declared.output.Output.TheVariants.{Report}
+use Rattle.capture_replay.specs.declared.progress.Progress.{Progress}
+use Rattle.capture_replay.specs.declared.refusal.ReplayError.{ReplayError}
+use Rattle.capture_replay.specs.declared.refusal.ReplayError.TheVariants.{Heavy, ReadFault, WriteFault, NoMemory}
 use Rattle.capture_replay.specs.Records.{control_at, packets_of, records_so_far}
 use Rattle.run_outcome.specs.Forwarded.{bytes_under as left_by}
 use Rattle.run_outcome.specs.Greatest.{greatest}
 use Rattle.capture_replay.specs.Outcome.{is_forward, streamed}
+use Rattle.capture_replay.specs.Runs.{AreUnrefused, IsIdle, MayRun, ReadsFile, RunsAlone}
+use Rattle.capture_replay.specs.Typed.{ReportIsTyped}
 
 -- the packet of a number, under the commands up to its ceiling
 abbrev pub packet_at : List Stamped → ℕ → Arrival → VersionedPacket
@@ -71,6 +79,11 @@ pub record IsRead (app : Meaning) (script : List Stamped) (output : Output) (giv
   pub light : failed ≡ None → is_heavy_so_far app script output frames ≡ false
   pub heavy : failed ≢ None → is_heavy_so_far app script output frames ≡ true
 
+-- a lane has the same application, and keeps entries or not as before
+pub record SameLane {L : Type 0} (g : Recorder L) (old new : L) : Type 0 where
+  pub app : g.app new ≡ g.app old
+  pub keeps : g.keeps new ≡ g.keeps old
+
 -- the same of a lane
 module _ {L : Type 0} (g : Recorder L) (script : List Stamped) where
   abbrev pub LaneIsUnder : L → Type 0
@@ -84,6 +97,27 @@ module _ {L : Type 0} (g : Recorder L) (script : List Stamped) where
 
   abbrev pub LaneHasRead : Output → L → List Captured → Type 0
   LaneHasRead output lane frames = IsRead (g.app lane) script output (g.given lane) (g.failed lane) (g.stands lane) frames
+
+  -- it may run under the script, and take the packet of a number
+  pub record MayTake (lane : L) (number : ℕ) : Type 0 where
+    pub lawful : MayRun (g.app lane) script
+    pub ready : LaneIsReady lane number
+
+  -- one that hasn't failed may take the script's commands up to a version
+  pub record MayCatchUp (lane : L) (version : ℕ) : Type 0 where
+    pub good : g.failed lane ≡ None
+    pub lawful : MayRun (g.app lane) script
+    pub under : LaneIsUnder lane
+    pub before : g.given lane ≤ version
+
+  -- it took them, where the call is done: it follows the packets that it followed before
+  pub record CatchesUp (old new : L) (version : ℕ) (done : Type 0) : Type 0 where
+    pub good : done → g.failed new ≡ None
+    pub given : done → g.given new ≡ version
+    pub under : done → LaneIsUnder new
+    pub follows : done → (ps : List VersionedPacket) → LaneFollows old ps → LaneFollows new ps
+    pub newest : g.last new ≡ g.last old
+    pub same : SameLane g old new
 
 -- what one frame more adds to what is written while the capture is read
 abbrev pub gained : Meaning → List Stamped → Output → List Captured → Captured → List ℕ
@@ -108,35 +142,90 @@ abbrev pub left_behind : ℕ → Option (List ℕ) → Option (List ℕ)
 left_behind n None = None
 left_behind n (Some left) = Some (drop n left)
 
--- a lane has come so far in a capture: these frames were read, so many, with this greatest moment
-pub record HasCome {L : Type 0} (g : Recorder L) (script : List Stamped) (output : Output) (lane : L) (packets : ℕ) (newest : Option Moment) (frames : List Captured) : Type 0 where
-  pub counted : length frames ≡ packets
-  pub latest : newest ≡ greatest (arrivals 0 frames)
-  pub read : LaneHasRead g script output lane frames
+-- no packet has been read
+abbrev pub at_start : Progress
+at_start = record { packets = 0; greatest = None }
 
--- where these frames had been read, more have been: what they leave was written, and they and what is left are the capture
-pub record ReadsOn (app : Meaning) (script : List Stamped) (output : Output) (old new : CaptureState) (taken_old taken_new left_old left_new : Option (List ℕ)) (frames all : List Captured) : Type 0 where
-  pub written : (before : Option (List ℕ)) → Appends before taken_old (streamed app script (packets_of script) output old.header frames)
-      → Appends before taken_new (streamed app script (packets_of script) output new.header all)
-  pub replays : (bytes : List ℕ) → Replaying bytes left_old old frames → Replaying bytes left_new new all
+-- a run may read on: the capture is live, and the lane may take its next packet
+pub record MayReadOn {L : Type 0} (g : Recorder L) (script : List Stamped) (output : Output) (lane : L) (capture : CaptureState) (so_far : Progress) : Type 0 where
+  pub may : MayTake g script lane so_far.packets
+  pub keeps : g.keeps lane ≡ not (is_forward output)
+  pub live : IsTrue capture.is_live
+  pub count : capture.count ≡ so_far.packets
+  pub few : so_far.packets ≤ 1048576
+  pub header : length capture.header ≡ 24
 
--- a run went on in a capture: it may read on, and whatever frames had been read, more have been
-pub record RunsOn {L S O : Type 0} (lanes : Recorder L) (sources : Source S) (sinks : Sink O) (script : List Stamped) (output : Output)
-    (lane : L) (capture : CaptureState) (packets : ℕ) (newest : Option Moment) (s : S) (o : O)
-    (lane_now : L) (capture_now : CaptureState) (packets_now : ℕ) (newest_now : Option Moment) (t : S) (p : O) : Type 0 where
-  pub live : capture_now.is_live ≡ true
-  pub count : capture_now.count ≡ packets_now
-  pub few : packets_now ≤ 1048576
-  pub rises : packets ≤ packets_now
-  pub header : capture_now.header ≡ capture.header
-  pub app : lanes.app lane_now ≡ lanes.app lane
-  pub ready : LaneIsReady lanes script lane_now packets_now
-  pub keeps : lanes.keeps lane_now ≡ lanes.keeps lane
-  pub silent : is_forward output ≡ false → p ≡ o
-  pub source_faults : sources.faults s ≤ sources.faults t
-  pub out_faults : sinks.faults o ≤ sinks.faults p
-  pub source_lasts : sources.lasting t ≡ sources.lasting s
-  pub out_lasts : sinks.lasting p ≡ sinks.lasting o
-  pub come : (frames : List Captured) → HasCome lanes script output lane packets newest frames → (all : List Captured)
-      × HasCome lanes script output lane_now packets_now newest_now all
-      × ReadsOn (lanes.app lane) script output capture capture_now (sinks.taken o) (sinks.taken p) (sources.left s) (sources.left t) frames all
+-- where packets aren't handed on, nothing is done to a sink
+pub record HandsOn {O T : Type 0} (sink : Sink O) (output : Output) (old new : O) (result : Result T Failed) : Type 0 where
+  pub silent : is_forward output ≡ false → IsOk result × (new ≡ old)
+  pub to : Writes sink old new (IsErr result)
+
+-- ---- a run that reads a capture
+
+-- where it stands: its lane, its capture, how far it has come in it, what it writes to, and what bytes are left of the capture
+pub record RunState (L O : Type 0) : Type 0 where
+  pub lane : L
+  pub capture : CaptureState
+  pub so_far : Progress
+  pub out : O
+  pub left : Option (List ℕ)
+
+abbrev pub run_at : {L O : Type 0} → L → CaptureState → Progress → O → Option (List ℕ) → RunState L O
+run_at lane capture so_far out left = record { lane = lane; capture = capture; so_far = so_far; out = out; left = left }
+
+module _ {L O : Type 0} (lanes : Recorder L) (sinks : Sink O) (script : List Stamped) (output : Output) where
+  -- it has read these frames, so many, with this greatest moment
+  pub record HasCome (a : RunState L O) (frames : List Captured) : Type 0 where
+    pub counted : length frames ≡ a.so_far.packets
+    pub latest : a.so_far.greatest ≡ greatest (arrivals 0 frames)
+    pub read : LaneHasRead lanes script output a.lane frames
+
+  -- it has written what they leave
+  abbrev pub HasWritten : RunState L O → Option (List ℕ) → List Captured → Type 0
+  HasWritten a before frames = Appends before (sinks.taken a.out) (streamed (lanes.app a.lane) script (packets_of script) output a.capture.header frames)
+
+  -- where it had read these frames, it has read more
+  pub record ReadsOn (a b : RunState L O) (frames all : List Captured) : Type 0 where
+    pub come : HasCome b all
+    pub written : (before : Option (List ℕ)) → HasWritten a before frames → HasWritten b before all
+    pub replays : (bytes : List ℕ) → Replaying bytes a.left a.capture frames → Replaying bytes b.left b.capture all
+
+  -- it went on, and may read on
+  pub record GoesOn (a b : RunState L O) : Type 0 where
+    pub may : MayReadOn lanes script output b.lane b.capture b.so_far
+    pub rises : a.so_far.packets ≤ b.so_far.packets
+    pub app : lanes.app b.lane ≡ lanes.app a.lane
+    pub silent : is_forward output ≡ false → b.out ≡ a.out
+    pub to : Writes sinks a.out b.out ⊥
+    pub reads : (frames : List Captured) → HasCome a frames → (all : List Captured) × ReadsOn a b frames all
+
+  -- it stopped: whatever frames it had read, it comes to this over the bytes of the capture
+  abbrev pub StopsAt : RunState L O → O → ReplayError → Type 0
+  StopsAt a new e = (before : Option (List ℕ)) (frames : List Captured) (bytes : List ℕ) → HasCome a frames → HasWritten a before frames → Replaying bytes a.left a.capture frames
+      → RunsAlone (lanes.app a.lane) script output bytes before (sinks.taken new) (Err e)
+
+  module _ {S : Type 0} (sources : Source S) where
+    -- it went on, and its source told no fault
+    pub record RunsOn (a b : RunState L O) (s t : S) : Type 0 where
+      pub goes : GoesOn a b
+      pub from : Reads sources s t ⊥
+
+    -- it stopped for this reason, before its capture ended
+    pub record BreaksOff (a : RunState L O) (new : O) (s t : S) (e : ReplayError) : Type 0 where
+      pub stops : StopsAt a new e
+      pub light : e ≢ Heavy
+      pub silent : is_forward output ≡ false → (new ≡ a.out) × (e ≢ WriteFault)
+      pub cut : e ≡ ReadFault → (frames : List Captured) (bytes : List ℕ) → HasCome a frames → Replaying bytes a.left a.capture frames → sources.left t ≡ Some [] → AreUnrefused bytes
+      pub from : Reads sources s t (e ≡ ReadFault)
+      pub to : Writes sinks a.out new (e ≡ WriteFault)
+
+    -- it had read no frame, and ran over what was left
+    pub record Replays (a : RunState L O) (new : O) (s t : S) (result : Result (List ℕ) ReplayError) : Type 0 where
+      pub comes_to : (bytes : List ℕ) (before : Option (List ℕ)) → HasWritten a before [] → Replaying bytes a.left a.capture []
+          → RunsAlone (lanes.app a.lane) script output bytes before (sinks.taken new) result
+      pub typed : output ≡ Report → IsOk result → (bytes : List ℕ) → Replaying bytes a.left a.capture [] → ReportIsTyped (lanes.app a.lane) script (packets_of script) bytes
+      pub read : IsOk result → (bytes : List ℕ) → Replaying bytes a.left a.capture [] → sources.left t ≡ Some []
+      pub silent : is_forward output ≡ false → IfErr result (λ e. e ≢ WriteFault → e ≢ NoMemory → new ≡ a.out)
+      pub reads : ReadsFile sources output (λ bytes. Replaying bytes a.left a.capture []) t (IsIdle a.out new result) result
+      pub from : Reads sources s t (IsErrOf result ReadFault)
+      pub to : Writes sinks a.out new (IsErrOf result WriteFault)

@@ -46,13 +46,14 @@ abbrev pub RunsAs : Outcome ReplayError → Option (List ℕ) → Option (List �
 RunsAs o old new (Ok versions) = Finishes o versions old new
 RunsAs o old new (Err e) = StopsAs o e × AppendsFront old new o.text
 
--- what one worker comes to over these bytes
-abbrev pub RunsAlone : Meaning → List Stamped → Output → List ℕ → Option (List ℕ) → Option (List ℕ) → Result (List ℕ) ReplayError → Type 0
-RunsAlone app script output bytes = RunsAs (outcome_over app script (packets_of script) output bytes)
+module _ (app : Meaning) (script : List Stamped) (output : Output) where
+  -- what one worker comes to over these bytes
+  abbrev pub RunsAlone : List ℕ → Option (List ℕ) → Option (List ℕ) → Result (List ℕ) ReplayError → Type 0
+  RunsAlone bytes = RunsAs (outcome_over app script (packets_of script) output bytes)
 
--- and at the end of a capture of these frames
-abbrev pub EndsAlone : Meaning → List Stamped → Output → List ℕ → List Captured → ℕ → Option (List ℕ) → Option (List ℕ) → Result (List ℕ) ReplayError → Type 0
-EndsAlone app script output header frames tail = RunsAs (weighed app script (packets_of script) output header frames tail)
+  -- and at the end of a capture of these frames
+  abbrev pub EndsAlone : List ℕ → List Captured → ℕ → Option (List ℕ) → Option (List ℕ) → Result (List ℕ) ReplayError → Type 0
+  EndsAlone header frames tail = RunsAs (weighed app script (packets_of script) output header frames tail)
 
 -- these bytes have no refusal of their own: they are a part of a global header, or whole records and a tail
 abbrev pub AreUnrefused : List ℕ → Type 0

@@ -1,4 +1,4 @@
--- Not of the headline. That the numbers and bytes of a run's report have the ranges of their types: definitions are on all natural numbers.
+-- That the numbers and bytes of a run's report have the ranges of their types: definitions are on all natural numbers.
 use Rattle.std.specs.Prelude.{◌≡◌, ℕ, List, length, map, Option, Some, Result, Ok, IfOk}
 use Rattle.app_api.specs.App.{Meaning}
 use Rattle.pcap_source.specs.Captured.{Captured}

@@ -5,8 +5,7 @@ ghost use Rattle.lane_core.specs.Records.{VersionedPacket, records, verdict_on};
 ghost use Rattle.lane_core.specs.Sight.{arrival_at};
 ghost use Rattle.control_script.specs.Versions.{ceil};
 ghost use Rattle.capture_replay.specs.Records.{control_at};
-ghost use Rattle.capture_replay.specs.Reading.{LaneIsUnder, LaneIsReady, LaneFollows, IsOver, packet_at};
-ghost use Rattle.capture_replay.specs.Runs.{MayRun};
+ghost use Rattle.capture_replay.specs.Reading.{CatchesUp, LaneIsReady, LaneFollows, IsOver, MayCatchUp, MayTake, SameLane, packet_at};
 
 use app_api::Verdict;
 use control_script::Script;
@@ -23,20 +22,10 @@ fn give<L: Recorder>(
     lane: &mut L,
     version: u32,
 ) -> Result<(), AllocError>
-    requires good { L.failed lane.old ≡ None }
-    requires lawful { MayRun (L.app lane.old) script.now }
-    requires under { LaneIsUnder L.Recorder script.now lane.old }
-    requires before { L.given lane.old ≤ version }
+    requires may { MayCatchUp L.Recorder script.now lane.old version }
     requires within { version ≤ length script.now }
     requires few { version ≤ 4096 }
-    ensures good { IsOk result → L.failed lane.new ≡ None }
-    ensures given { IsOk result → L.given lane.new ≡ version }
-    ensures under { IsOk result → LaneIsUnder L.Recorder script.now lane.new }
-    ensures follows { IsOk result → (ps : List VersionedPacket)
-        → LaneFollows L.Recorder script.now lane.old ps → LaneFollows L.Recorder script.now lane.new ps }
-    ensures newest { L.last lane.new ≡ L.last lane.old }
-    ensures app { L.app lane.new ≡ L.app lane.old }
-    ensures keeps { L.keeps lane.new ≡ L.keeps lane.old }
+    ensures { CatchesUp L.Recorder script.now lane.old lane.new version (IsOk result) }
 {
     one_event_more();
     while lane.version() < version {
@@ -57,18 +46,8 @@ fn catch_up<L: Recorder>(
     lane: &mut L,
     number: u64,
 ) -> Result<(), AllocError>
-    requires good { L.failed lane.old ≡ None }
-    requires lawful { MayRun (L.app lane.old) script.now }
-    requires under { LaneIsUnder L.Recorder script.now lane.old }
-    requires before { L.given lane.old ≤ ceil script.now number }
-    ensures good { IsOk result → L.failed lane.new ≡ None }
-    ensures given { IsOk result → L.given lane.new ≡ ceil script.now number }
-    ensures under { IsOk result → LaneIsUnder L.Recorder script.now lane.new }
-    ensures follows { IsOk result → (ps : List VersionedPacket)
-        → LaneFollows L.Recorder script.now lane.old ps → LaneFollows L.Recorder script.now lane.new ps }
-    ensures newest { L.last lane.new ≡ L.last lane.old }
-    ensures app { L.app lane.new ≡ L.app lane.old }
-    ensures keeps { L.keeps lane.new ≡ L.keeps lane.old }
+    requires may { MayCatchUp L.Recorder script.now lane.old (ceil script.now number) }
+    ensures { CatchesUp L.Recorder script.now lane.old lane.new (ceil script.now number) (IsOk result) }
 {
     if lane.version() >= script.len() {
         return Ok(());
@@ -90,8 +69,7 @@ pub(crate) fn advance<L: Recorder>(
     bytes: &[u8],
 ) -> Result<Verdict, LaneError>
     requires good { L.failed lane.old ≡ None }
-    requires lawful { MayRun (L.app lane.old) script.now }
-    requires ready { LaneIsReady L.Recorder script.now lane.old number }
+    requires may { MayTake L.Recorder script.now lane.old number }
     requires bound { number < 1048576 }
     ensures ok { OnOk result (L.failed lane.new ≡ None) }
     ensures failed { result ≡ Err LaneError.Heavy → L.failed lane.new ≢ None }
@@ -109,8 +87,7 @@ pub(crate) fn advance<L: Recorder>(
         → LaneFollows L.Recorder script.now lane.old ps
         → IsOver (L.app lane.old) script.now (ps ++ packet_at script.now number (arrival_at number moment bytes.now) ∷ [])) }
     ensures ready { result ≢ Err LaneError.NoMemory → LaneIsReady L.Recorder script.now lane.new (number + 1) }
-    ensures app { L.app lane.new ≡ L.app lane.old }
-    ensures keeps { L.keeps lane.new ≡ L.keeps lane.old }
+    ensures same { SameLane L.Recorder lane.old lane.new }
 {
     one_event_more();
     later_commands_change_none();

@@ -6,8 +6,8 @@
 //! Begin with `specs/Records.antt` and `specs/Outcome.antt`, then `run_one` in `src/single.rt` and `run_several` in
 //! `src/several.rt`. `src/replay.rt` and `src/advance.rt` are the replay of one worker under the script's commands,
 //! `src/in_place.rt` reads the records that a source lends where they stand, `src/taking.rt` is the way of one packet,
-//! `src/close.rt` and `src/summary.rt` what is written at the end, `src/refusal.rt` why a replay ends before. `src/laws.rt` and
-//! `src/verdicts.rt` say what the outcome means.
+//! `src/progress.rt` counts them, `src/close.rt` and `src/summary.rt` are what is written at the end, `src/refusal.rt` why a
+//! replay ends before. `src/laws.rt` and `src/verdicts.rt` say what the outcome means.
 //! Tests: none of its own; `run_tests` and `whole_runs`, through `mos_run`.
 #![tactic(auto)]
 
@@ -17,6 +17,7 @@ mod in_place;
 pub mod laws;
 mod output;
 mod plan;
+mod progress;
 mod refusal;
 mod replay;
 pub mod reports;

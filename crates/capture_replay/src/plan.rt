@@ -5,10 +5,12 @@ ghost use Rattle.std.specs.Prelude.{◌≡◌};
 use crate::Output;
 use control_script::Script;
 use native_filters::NativeBook;
+use std::alloc::Global;
 
 /// What a run does with the packets of a capture, the same from the first to the last.
 #[derive(Drop)]
 pub(crate) struct Plan<'a> {
+    pub(crate) alloc: Global,
     pub(crate) script: &'a Script,
     pub(crate) natives: &'a NativeBook,
     pub(crate) output: Output,
@@ -31,12 +33,13 @@ pub struct Task<'a, A> {
 
 impl<A> Task<'_, A> {
     // What the task does with packets, with the native filters that they are asked of.
-    pub(crate) fn plan<'b>(&'b self, natives: &'b NativeBook) -> Plan<'b>
+    pub(crate) fn plan<'b>(&'b self, alloc: Global, natives: &'b NativeBook) -> Plan<'b>
         ensures script { result.script.now ≡ self.now.script.now }
         ensures output { result.output ≡ self.now.output }
         ensures workers { result.workers ≡ self.now.workers }
     {
         Plan {
+            alloc,
             script: self.script,
             natives,
             output: self.output,

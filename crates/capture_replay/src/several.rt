@@ -34,158 +34,87 @@ use std::thread::Threads;
 use words::Settings;
 use worker_pool::{Gate, Job, run_lanes_kept};
 
-// Writes what is written at the end. As many threads as there were workers share the making of a report's text.
-fn write_end_by<R: Threads + Wait, A: App + Sync, G, O: Sink>(
-    crew: &Crew<'_, R, G>,
-    alloc: Global,
-    app: &A,
-    plan: &Plan<'_>,
-    records: &[RecordUnderWay],
-    totals: &Totals,
-    out: &mut O,
-) -> Result<(), ReplayError>
-    requires some { 1 ≤ plan.now.workers }
-    ensures text { WriteAdds (O.taken out.old) (O.taken out.new) result
-        (closing plan.now.output (shown_as (A.meaning app.now) records.now) totals.now) }
-    ensures typed { plan.now.output ≡ Output.Report → IsOk result
-        → HaveTypes (shown_as (A.meaning app.now) records.now) totals.now }
-    ensures silent { is_forward plan.now.output ≡ true → out.new ≡ out.old }
-    ensures only { IfErr result
-        (λ e. ((e ≡ ReplayError.WriteFault) × (is_forward plan.now.output ≡ false)) ⊎ (e ≡ ReplayError.NoMemory)) }
-    ensures to { Writes O.Sink out.old out.new (IsErrOf result ReplayError.WriteFault) }
-{
-    match plan.output {
-        Output::Report => {
-            write_report_by(crew.rt, alloc, plan.workers, app, out, records, totals)?;
-            Ok(())
+impl<R: Threads + Wait + Sync + Send + Copy + Drop + 'static, G: Gate + Sync> Crew<'_, R, G> {
+    // Writes what is written at the end. As many threads as there were workers share the making of a report's text.
+    fn write_end<A: App + Sync, O: Sink>(
+        &self,
+        app: &A,
+        plan: &Plan<'_>,
+        records: &[RecordUnderWay],
+        totals: &Totals,
+        out: &mut O,
+    ) -> Result<(), ReplayError>
+        requires some { 1 ≤ plan.now.workers }
+        ensures text { WriteAdds (O.taken out.old) (O.taken out.new) result
+            (closing plan.now.output (shown_as (A.meaning app.now) records.now) totals.now) }
+        ensures typed { plan.now.output ≡ Output.Report → IsOk result
+            → HaveTypes (shown_as (A.meaning app.now) records.now) totals.now }
+        ensures silent { is_forward plan.now.output ≡ true → out.new ≡ out.old }
+        ensures only { IfErr result
+            (λ e. ((e ≡ ReplayError.WriteFault) × (is_forward plan.now.output ≡ false)) ⊎ (e ≡ ReplayError.NoMemory)) }
+        ensures to { Writes O.Sink out.old out.new (IsErrOf result ReplayError.WriteFault) }
+    {
+        match plan.output {
+            Output::Report => {
+                write_report_by(self.rt, plan.alloc, plan.workers, app, out, records, totals)?;
+                Ok(())
+            }
+            Output::Forward => Ok(()),
+            Output::Summary(n) => write_summary(plan.alloc, out, n, totals),
         }
-        Output::Forward => Ok(()),
-        Output::Summary(n) => write_summary(alloc, out, n, totals),
     }
-}
 
-// Runs over a capture on the plan's lanes, and then writes what is written at the end.
-fn report_on<
-    R: Threads + Wait + Sync + Send + Copy + Drop + 'static,
-    A: App + Copy + Send + Sync + Drop,
-    S: Source,
-    O: Sink,
-    G: Gate + Sync,
->(
-    crew: &Crew<'_, R, G>,
-    alloc: Global,
-    app: A,
-    plan: &Plan<'_>,
-    source: &mut S,
-    out: &mut O,
-) -> Result<VersionList, ReplayError>
-    requires job { IsJob (A.meaning app) plan.now.script.now plan.now.workers }
-    requires order { IsTrue (are_in_order plan.now.script.now) }
-    requires kept { is_forward plan.now.output ≡ false }
-    ensures ran { Runs S.Source O.Sink plan.now.output
-        (RunsWith (A.meaning app) plan.now.script.now plan.now.workers plan.now.output)
-        source.old source.new out.old out.new result }
-    ensures typed { WritesTyped (A.meaning app) plan.now.script.now plan.now.output (S.left source.old) result }
-{
-    a_run_has_its_versions();
-    what_one_worker_has_is_allowed();
-    let mut capture = Capture::open(source)?;
-    let job = Job {
-        app,
-        script: plan.script,
-        workers: plan.workers,
-    };
-    let end = run_lanes_kept(
-        crew.rt,
-        alloc,
-        &job,
-        &mut capture,
-        source,
-        plan.natives,
-        crew.gate,
-    )?;
-    write_end_by(
-        crew,
-        alloc,
-        &app,
-        plan,
-        end.records.as_slice(),
-        &end.totals,
-        out,
-    )?;
-    Ok(end.versions)
-}
-
-// Runs over a capture on the plan's lanes, and writes the capture without its dropped packets meanwhile.
-fn forward_on<
-    R: Threads + Wait + Sync + Send + Copy + Drop + 'static,
-    A: App + Copy + Send + Sync + Drop,
-    S: Source,
-    O: Sink,
-    G: Gate + Sync,
->(
-    crew: &Crew<'_, R, G>,
-    alloc: Global,
-    app: A,
-    plan: &Plan<'_>,
-    source: &mut S,
-    out: &mut O,
-) -> Result<VersionList, ReplayError>
-    requires job { IsJob (A.meaning app) plan.now.script.now plan.now.workers }
-    requires order { IsTrue (are_in_order plan.now.script.now) }
-    requires forwards { is_forward plan.now.output ≡ true }
-    ensures ran { Runs S.Source O.Sink plan.now.output
-        (RunsWith (A.meaning app) plan.now.script.now plan.now.workers plan.now.output)
-        source.old source.new out.old out.new result }
-{
-    a_run_has_its_versions();
-    what_one_worker_has_is_allowed();
-    let mut capture = Capture::open(source)?;
-    capture.write_header(out)?;
-    let job = Job {
-        app,
-        script: plan.script,
-        workers: plan.workers,
-    };
-    let versions = forward_lanes(
-        crew.rt,
-        alloc,
-        &job,
-        &mut capture,
-        source,
-        out,
-        plan.natives,
-        crew.gate,
-    )?;
-    Ok(versions)
-}
-
-// Runs over a capture on the plan's lanes.
-fn run_on<
-    R: Threads + Wait + Sync + Send + Copy + Drop + 'static,
-    A: App + Copy + Send + Sync + Drop,
-    S: Source,
-    O: Sink,
-    G: Gate + Sync,
->(
-    crew: &Crew<'_, R, G>,
-    alloc: Global,
-    app: A,
-    plan: &Plan<'_>,
-    source: &mut S,
-    out: &mut O,
-) -> Result<VersionList, ReplayError>
-    requires job { IsJob (A.meaning app) plan.now.script.now plan.now.workers }
-    requires order { IsTrue (are_in_order plan.now.script.now) }
-    ensures ran { Runs S.Source O.Sink plan.now.output
-        (RunsWith (A.meaning app) plan.now.script.now plan.now.workers plan.now.output)
-        source.old source.new out.old out.new result }
-    ensures typed { WritesTyped (A.meaning app) plan.now.script.now plan.now.output (S.left source.old) result }
-{
-    if plan.output.is_forward() {
-        return forward_on(crew, alloc, app, plan, source, out);
+    // Runs over a capture on the plan's lanes. The capture without its dropped packets is written meanwhile, and what else is
+    // written at the end.
+    fn run<A: App + Copy + Send + Sync + Drop, S: Source, O: Sink>(
+        &self,
+        app: A,
+        plan: &Plan<'_>,
+        source: &mut S,
+        out: &mut O,
+    ) -> Result<VersionList, ReplayError>
+        requires job { IsJob (A.meaning app) plan.now.script.now plan.now.workers }
+        requires order { IsTrue (are_in_order plan.now.script.now) }
+        ensures ran { Runs S.Source O.Sink plan.now.output
+            (RunsWith (A.meaning app) plan.now.script.now plan.now.workers plan.now.output)
+            source.old source.new out.old out.new result }
+        ensures typed { WritesTyped (A.meaning app) plan.now.script.now plan.now.output (S.left source.old) result }
+    {
+        a_run_has_its_versions();
+        what_one_worker_has_is_allowed();
+        let mut capture = Capture::open(source)?;
+        let job = Job {
+            app,
+            script: plan.script,
+            workers: plan.workers,
+        };
+        if plan.output.is_forward() {
+            capture.write_header(out)?;
+            let versions = forward_lanes(
+                self.rt,
+                plan.alloc,
+                &job,
+                &mut capture,
+                source,
+                out,
+                plan.natives,
+                self.gate,
+            )?;
+            return Ok(versions);
+        }
+        let end = run_lanes_kept(
+            self.rt,
+            plan.alloc,
+            &job,
+            &mut capture,
+            source,
+            plan.natives,
+            self.gate,
+        )?;
+        let records = end.records.as_slice();
+        self.write_end(&app, plan, records, &end.totals, out)?;
+        Ok(end.versions)
     }
-    report_on(crew, alloc, app, plan, source, out)
 }
 
 /// Replays a capture, or the one that is made, with the task's workers, 1 to 16, each in a thread of its own, and writes what
@@ -217,12 +146,12 @@ pub fn run_several_with<
     ensures typed { WritesTyped (A.meaning task.now.app) task.now.script.now task.now.output
         (S.left capture.old) result }
 {
-    let plan = task.plan(natives);
+    let plan = task.plan(alloc, natives);
     // With its length a script tells that its commands are in order.
     let _ = task.script.len();
     match task.output {
-        Output::Summary(n) => run_on(crew, alloc, task.app, &plan, &mut Maker::new(n), out),
-        Output::Report | Output::Forward => run_on(crew, alloc, task.app, &plan, capture, out),
+        Output::Summary(n) => crew.run(task.app, &plan, &mut Maker::new(n), out),
+        Output::Report | Output::Forward => crew.run(task.app, &plan, capture, out),
     }
 }
 

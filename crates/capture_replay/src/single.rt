@@ -41,10 +41,10 @@ pub fn run_one_with<A: App + Copy + Drop, S: Source, O: Sink>(
     ensures typed { WritesTyped (A.meaning task.now.app) task.now.script.now task.now.output
         (S.left capture.old) result }
 {
-    let plan = task.plan(natives);
+    let plan = task.plan(alloc, natives);
     match task.output {
-        Output::Summary(n) => replay(alloc, task.app, &plan, &mut Maker::new(n), out),
-        Output::Report | Output::Forward => replay(alloc, task.app, &plan, capture, out),
+        Output::Summary(n) => replay(task.app, &plan, &mut Maker::new(n), out),
+        Output::Report | Output::Forward => replay(task.app, &plan, capture, out),
     }
 }
 

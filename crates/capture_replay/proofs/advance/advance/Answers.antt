@@ -15,7 +15,7 @@ returns-clause-verdict g c =
     IfOk-weaker c.packet_at.result _ _ (λ verdict is ps f.
     packet_verdict (g.L.Recorder.app c.args.lane.now) c.args.script.now (g.L.Recorder.given lane) c.args.number (arrival_at c.args.number c.args.moment c.args.bytes.now) (g.L.Recorder.stands lane) ps (c.catch_up.ensures.under good).within
     (c.catch_up.ensures.given good) (c.catch_up.ensures.follows good ps f) c.later_commands_change_none.ensures verdict
-    (λ events s. subst (λ a. verdict ≡ next_verdict a events (arrival_at c.args.number c.args.moment c.args.bytes.now)) c.catch_up.ensures.app (is events s))) c.packet_at.ensures.verdict
+    (λ events s. subst (λ a. verdict ≡ next_verdict a events (arrival_at c.args.number c.args.moment c.args.bytes.now)) c.catch_up.ensures.same.app (is events s))) c.packet_at.ensures.verdict
 
 pub returns-clause-light : goal.returns-clause-light
 returns-clause-light g c =
@@ -26,21 +26,21 @@ returns-clause-light g c =
     let over = packet_over (g.L.Recorder.app c.args.lane.now) c.args.script.now (g.L.Recorder.given lane) c.args.number (arrival_at c.args.number c.args.moment c.args.bytes.now)
     (g.L.Recorder.stands lane) ps (c.catch_up.ensures.under good).within
     (c.catch_up.ensures.given good) now c.one_event_more.ensures c.later_commands_change_none.ensures in
-    λ is. light (c.catch_up.ensures.keeps ∙ keeps) now.events now.stands_for
-    (subst (λ a. IsHeavy a (with_event (Arrived (arrival_at c.args.number c.args.moment c.args.bytes.now)) now.events)) (sym c.catch_up.ensures.app) (over.1 is))) c.packet_at.ensures.light
+    λ is. light (c.catch_up.ensures.same.keeps ∙ keeps) now.events now.stands_for
+    (subst (λ a. IsHeavy a (with_event (Arrived (arrival_at c.args.number c.args.moment c.args.bytes.now)) now.events)) (sym c.catch_up.ensures.same.app) (over.1 is))) c.packet_at.ensures.light
 
 pub returns-clause-heavy : goal.returns-clause-heavy
 returns-clause-heavy g c = λ bad.
     let good : IsOk c.catch_up.result = c.is_err.ensures.negation ∙ ap not c.if-is_err.false in
     let lane = c.catch_up.new.lane in
     let heavy = c.packet_at.ensures.heavy (c.catch_up.ensures.good good) bad in (
-      sym c.catch_up.ensures.keeps ∙ heavy.0,
+      sym c.catch_up.ensures.same.keeps ∙ heavy.0,
       λ ps f.
           let now = c.catch_up.ensures.follows good ps f in
           let over = packet_over (g.L.Recorder.app c.args.lane.now) c.args.script.now (g.L.Recorder.given lane) c.args.number (arrival_at c.args.number c.args.moment c.args.bytes.now)
           (g.L.Recorder.stands lane) ps (c.catch_up.ensures.under good).within
           (c.catch_up.ensures.given good) now c.one_event_more.ensures c.later_commands_change_none.ensures in
-          over.0 (subst (λ a. IsHeavy a (with_event (Arrived (arrival_at c.args.number c.args.moment c.args.bytes.now)) now.events)) c.catch_up.ensures.app (heavy.1 now.events now.stands_for)),
+          over.0 (subst (λ a. IsHeavy a (with_event (Arrived (arrival_at c.args.number c.args.moment c.args.bytes.now)) now.events)) c.catch_up.ensures.same.app (heavy.1 now.events now.stands_for)),
     )
 
 pub returns-clause-ready : goal.returns-clause-ready

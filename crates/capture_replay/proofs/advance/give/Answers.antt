@@ -12,7 +12,7 @@ command-requires-in-loop-alloc-clause-lawful g c =
     let at : slice_get (commands_of c.args.script.now) (g.L.Recorder.given lane) ≡ Some c.in-Some.command.now =
     subst (λ v. slice_get (commands_of c.args.script.now) v ≡ Some c.in-Some.command.now) c.version-in-loop-alloc.ensures (sym c.in-Some.ensures) in
     subst (λ s. is_lawful s c.in-Some.command.now ≡ true) (sym c.loop-alloc.invariant.under.in_force)
-    (lawful_at (g.L.Recorder.app c.args.lane.now) c.args.script.now (g.L.Recorder.given lane) c.in-Some.command.now c.requires.lawful at)
+    (lawful_at (g.L.Recorder.app c.args.lane.now) c.args.script.now (g.L.Recorder.given lane) c.in-Some.command.now c.requires.may.lawful at)
 
 pub loop-alloc-preserved : goal.loop-alloc-preserved
 loop-alloc-preserved g c =
@@ -38,10 +38,18 @@ loop-alloc-preserved g c =
       keeps = e.keeps ∙ inv.keeps;
     }
 
-pub returns-in_default-clause-given : goal.returns-in_default-clause-given
-returns-in_default-clause-given g c = λ ok.
+pub returns-in_default : goal.returns-in_default
+returns-in_default g c =
     let lane = c.loop-alloc.lane in
+    let inv = c.loop-alloc.invariant in
     let none : slice_get (commands_of c.args.script.now) (g.L.Recorder.given lane) ≡ None =
     subst (λ v. slice_get (commands_of c.args.script.now) v ≡ None) c.version-in-loop-alloc.ensures (sym c.in_default.ensures) in
     let less = c.loop-alloc-test.true in
-    absurd (no_command c.args.script.now (g.L.Recorder.given lane) none (omega (arith, less, c.version.ensures, c.requires.within)))
+    record {
+      good = λ _. inv.good;
+      given = λ _. absurd (no_command c.args.script.now (g.L.Recorder.given lane) none (omega (arith, less, c.version.ensures, c.requires.within)));
+      under = λ _. rw (inv.app) inv.under;
+      follows = λ _. inv.follows;
+      newest = inv.newest;
+      same = record { app = inv.app; keeps = inv.keeps };
+    }

@@ -1,97 +1,70 @@
-use Rattle.std.proofs.Common.{◌+◌, ◌++◌, ◌∷◌, [], length, drop, Some, Err, refl, sym, ap, subst, ◌∙◌, arith, le_refl, length-drop}
-use Rattle.std.proofs.lemmas.List.{length-append}
+use Rattle.std.proofs.Common.{◌+◌, Option, None, List, ℕ, Err, drop, refl, ap, ◌∙◌, arith, length-drop}
 use Rattle.std.proofs.lemmas.Result.{err_from_is_err_and}
-use Rattle.std.specs.Io.KnownBytes.{Appends}
+use Rattle.mos_bytes.specs.Reads.{BeginsWith}
 use Rattle.pcap_source.specs.Capture.{record_at}
-use Rattle.capture_replay.specs.Records.{packets_of}
-use Rattle.capture_replay.specs.Outcome.{streamed, outcome_over}
-use Rattle.capture_replay.specs.Reading.{gained}
-use Rattle.capture_replay.specs.Runs.{RunsAs}
-use Rattle.capture_replay.proofs.Replaying.{front_of_frame, stopped_by}
-use Rattle.capture_replay.proofs.InPlace.{latest_with, reads_none, reads_one_more, seen_behind, taken_behind, told_in}
+use Rattle.capture_replay.specs.declared.refusal.ReplayError.TheVariants as Replay
+use Rattle.capture_replay.specs.Reading.{left_behind, run_at}
+use Rattle.capture_replay.proofs.Ends.{err_same}
+use Rattle.capture_replay.proofs.InPlace.{behind_none, seen_behind, taken_behind, told_in}
+use Rattle.capture_replay.proofs.Onward.{goes_nowhere, goes_past, keeps_all, on_and_on, one_frame, stops_behind, stops_taking, writes_as, writes_since}
 use Rattle.capture_replay.proofs.in_place.walk.Goals as goal
 
 pub loop-record-init : goal.loop-record-init
 loop-record-init g c = record {
   within = omega arith;
-  live = c.requires.live;
-  count = c.requires.count;
-  few = c.requires.few;
-  rises = le_refl _;
-  header = refl;
-  app = refl;
-  ready = c.requires.ready;
-  keeps = refl;
-  silent = λ is. refl;
-  out_faults = le_refl _;
-  out_lasts = refl;
-  come = λ left frames begins here.
-      let plan = c.args.plan.now in
-      (frames, here, reads_none (g.L.Recorder.app c.args.lane.now) plan.script.now plan.output c.args.capture.now (g.O.Sink.taken c.args.out.now) left frames);
+  may = c.requires.may;
+  goes = λ left begins. goes_past _ (run_at c.args.lane.now c.args.capture.now c.args.so_far c.args.out.now left) (left_behind 0 left) (goes_nowhere _ c.requires.may)
+      (λ frames bytes r. rw (behind_none left) r);
 }
 
 pub loop-record-preserved : goal.loop-record-preserved
 loop-record-preserved g c =
     let at = c.loop-record in
-    let inv = at.invariant in
-    let plan = c.args.plan.now in
-    let app = g.L.Recorder.app c.args.lane.now in
-    let new = c.next_in.new.self in
     let front = c.args.front.now in
-    let taken = taken_behind at.capture new front at.at c.in-Some.record c.in-Some.ensures.taken in
-    let frame = record_at at.capture.order (drop at.at front) in
-    let seen = seen_behind at.capture new front at.at c.in-Some.record c.in-Some.ensures.taken in
+    let record_ = c.in-Some.record in
+    let taken = taken_behind at.capture c.next_in.new.self front at.len record_ c.in-Some.ensures.taken in
+    let frame = record_at at.capture.order (drop at.len front) in
+    let seen = seen_behind at.capture c.next_in.new.self front at.len record_ c.in-Some.ensures.taken in
     let more = c.in_ok-take_at.ensures in
+    let on = λ (left : Option (List ℕ)) (begins : BeginsWith left front). on_and_on (at.invariant.goes left begins)
+    (one_frame (run_at at.lane at.capture at.so_far at.out (left_behind at.len left))
+    (run_at c.take_at.new.lane c.next_in.new.self c.with_packet-so_far.result c.take_at.new.out (left_behind (at.len + record_.len) left)) (g.O.Sink.taken at.out) frame _
+    at.invariant.may taken.moves taken.live c.take_at.ensures.same (more.ready refl) c.with_packet-so_far.ensures.packets c.with_packet-so_far.ensures.greatest seen.moment_is
+    c.take_at.ensures.silent (writes_as (λ none. absurd none) c.take_at.ensures.to) (keeps_all _)
+    (λ frames count read. more.reads refl frame frames seen count read) (λ frames count read. more.writes frame frames seen count read)
+    (λ rest told. told_in left front at.len record_.len at.capture c.next_in.new.self frame rest begins at.invariant.within taken.gives told)) in
     record {
-      within = let inside = taken.within in let was = inv.within in omega (arith, inside, was, length-drop at.at front);
-      live = taken.live;
-      count = taken.moves.count ∙ ap (λ n. n + 1) inv.count;
-      few = let within = taken.moves.within in let count = taken.moves.count in let was = inv.count in omega (arith, within, count, was);
-      rises = let before = inv.rises in omega (arith, before);
-      header = taken.moves.header ∙ inv.header;
-      app = c.take_at.ensures.app ∙ inv.app;
-      ready = more.ready refl;
-      keeps = c.take_at.ensures.keeps ∙ inv.keeps;
-      silent = λ is. c.take_at.ensures.silent is ∙ inv.silent is;
-      out_faults = let before = inv.out_faults in let later = c.take_at.ensures.to.cause.later in omega (arith, before, later);
-      out_lasts = c.take_at.ensures.to.lasts ∙ inv.out_lasts;
-      come = λ left frames begins here.
-          let come = inv.come left frames begins here in (
-            come.0 ++ frame ∷ [],
-            record {
-              counted = length-append come.0 (frame ∷ []) ∙ ap (λ n. n + 1) come.1.counted;
-              latest = ap Some c.later_of.ensures ∙ latest_with at.last _ come.0 frame seen.moment_is come.1.latest;
-              read = more.reads refl frame come.0 seen come.1.counted come.1.read;
-            },
-            reads_one_more app plan.script.now plan.output c.args.capture.now at.capture new _ (g.O.Sink.taken at.out) (g.O.Sink.taken c.take_at.new.out) left front at.at c.in-Some.record.len frames come.0 frame
-                begins inv.within taken.gives taken.moves.header
-                (subst (λ a. Appends (g.O.Sink.taken at.out) (g.O.Sink.taken c.take_at.new.out) (gained a plan.script.now plan.output come.0 frame)) inv.app
-                (more.writes frame come.0 seen come.1.counted come.1.read))
-                come.2,
-          );
+      within = let inside = taken.within in let was = at.invariant.within in omega (arith, inside, was, length-drop at.len front);
+      may = (on None tt).may;
+      goes = on;
     }
 
 pub returns-in_err-take_at-clause-stops : goal.returns-in_err-take_at-clause-stops
 returns-in_err-take_at-clause-stops g c =
     let at = c.loop-record in
-    let inv = at.invariant in
-    let plan = c.args.plan.now in
-    let app = g.L.Recorder.app at.lane in
-    let new = c.next_in.new.self in
     let front = c.args.front.now in
-    let taken = taken_behind at.capture new front at.at c.in-Some.record c.in-Some.ensures.taken in
-    let frame = record_at at.capture.order (drop at.at front) in
-    let seen = seen_behind at.capture new front at.at c.in-Some.record c.in-Some.ensures.taken in
+    let record_ = c.in-Some.record in
+    let taken = taken_behind at.capture c.next_in.new.self front at.len record_ c.in-Some.ensures.taken in
+    let frame = record_at at.capture.order (drop at.len front) in
+    let seen = seen_behind at.capture c.next_in.new.self front at.len record_ c.in-Some.ensures.taken in
     let e = c.in_err-take_at.field-0.0 in
     let p = err_from_is_err_and c.from_residual.result c.from_residual.ensures.1 in
     rw (p.1, p.2)
-    (λ left before frames bytes begins here r written.
-    let come = inv.come left frames begins here in
-    let rep = come.2.replays bytes r in
-    let step = told_in left front at.at c.in-Some.record.len at.capture new frame rep.rest begins inv.within taken.gives rep.told in
-    let so_far = subst (λ a. Appends before (g.O.Sink.taken at.out) (streamed a plan.script.now (packets_of plan.script.now) plan.output at.capture.header come.0)) (sym inv.app) (come.2.written before written) in
-    subst (λ a. RunsAs (outcome_over a plan.script.now (packets_of plan.script.now) plan.output bytes) before (g.O.Sink.taken c.take_at.new.out) (Err e)) inv.app (
-      stopped_by app plan.script.now plan.output bytes _ at.capture come.0 e rep (ap length inv.header ∙ c.requires.header) c.in_err-take_at.ensures.only,
-      front_of_frame app plan.script.now plan.output bytes _ _ at.capture new come.0 frame before (g.O.Sink.taken at.out) (g.O.Sink.taken c.take_at.new.out) rep step so_far
-          (c.in_err-take_at.ensures.writes frame come.0 seen come.1.counted come.1.read),
-    ))
+    (λ left begins. stops_behind _ _ c.take_at.new.out e (at.invariant.goes left begins)
+    (stops_taking (run_at at.lane at.capture at.so_far at.out (left_behind at.len left)) c.next_in.new.self (left_behind (at.len + record_.len) left) (g.O.Sink.taken at.out) c.take_at.new.out frame e
+    at.invariant.may (keeps_all _) c.in_err-take_at.ensures.only (λ frames count read. c.in_err-take_at.ensures.writes frame frames seen count read)
+    (λ rest told. told_in left front at.len record_.len at.capture c.next_in.new.self frame rest begins at.invariant.within taken.gives told)))
+
+pub returns-in_err-take_at-clause-silent : goal.returns-in_err-take_at-clause-silent
+returns-in_err-take_at-clause-silent g c = λ kept. c.take_at.ensures.silent kept ∙ (c.loop-record.invariant.goes None tt).silent kept
+
+pub returns-in_err-take_at-clause-to : goal.returns-in_err-take_at-clause-to
+returns-in_err-take_at-clause-to g c =
+    let p = err_from_is_err_and c.from_residual.result c.from_residual.ensures.1 in
+    rw (p.1, p.2) (writes_since (c.loop-record.invariant.goes None tt).to (writes_as (λ is. c.in_err-take_at.was ∙ ap (λ x. Err x) (err_same c.in_err-take_at.field-0.0 Replay.WriteFault is)) c.take_at.ensures.to))
+
+pub returns-in_default-clause-silent : goal.returns-in_default-clause-silent
+returns-in_default-clause-silent g c = (c.loop-record.invariant.goes None tt).silent
+
+pub returns-in_default-clause-to : goal.returns-in_default-clause-to
+returns-in_default-clause-to g c = writes_as (λ bad. cc) (c.loop-record.invariant.goes None tt).to

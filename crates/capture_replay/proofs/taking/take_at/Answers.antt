@@ -11,7 +11,7 @@ use Rattle.capture_replay.proofs.taking.take_at.Goals as goal
 pub returns-then-has_failed-clause-ready : goal.returns-then-has_failed-clause-ready
 returns-then-has_failed-clause-ready g c = λ ok.
     let lane = c.args.lane.now in
-    ready_still (g.L.Recorder.app lane) c.args.plan.now.script.now (g.L.Recorder.given lane) (g.L.Recorder.control lane) (g.L.Recorder.last lane) c.args.number c.requires.ready
+    ready_still (g.L.Recorder.app lane) c.args.plan.now.script.now (g.L.Recorder.given lane) (g.L.Recorder.control lane) (g.L.Recorder.last lane) c.args.number c.requires.may.ready
 
 pub returns-then-has_failed-clause-reads : goal.returns-then-has_failed-clause-reads
 returns-then-has_failed-clause-reads g c = λ ok frame frames seen count read.
@@ -30,7 +30,7 @@ returns-in_ok-write_passed-in-Ok-clause-reads g c = λ ok frame frames seen coun
     let before = read.follows good in
     let same = seen_arrival c.args.number frame c.args.moment c.args.head.now c.args.bytes.now seen in
     let plan_script = plan.script.now in
-    rw (c.advance.ensures.app)
+    rw (c.advance.ensures.same.app)
     (read_more (g.L.Recorder.app old) plan.script.now plan.output frames frame c.args.number count (g.L.Recorder.given new) (g.L.Recorder.failed new) (g.L.Recorder.stands new)
     e.ok (subst (λ a. Follows plan_script (g.L.Recorder.given new) (g.L.Recorder.stands new) (packets_of plan_script frames ++ packet_at plan_script c.args.number a ∷ [])) same
     (e.follows (packets_of plan.script.now frames) before))
@@ -47,7 +47,7 @@ returns-in-Err-Heavy-clause-reads g c = λ ok frame frames seen count read.
     let heavy = c.advance.ensures.heavy is in
     let same = seen_arrival c.args.number frame c.args.moment c.args.head.now c.args.bytes.now seen in
     let plan_script = plan.script.now in
-    rw (c.advance.ensures.app)
+    rw (c.advance.ensures.same.app)
     (read_heavy (g.L.Recorder.app old) plan.script.now plan.output frames frame c.args.number count (g.L.Recorder.given new) (g.L.Recorder.failed new) (g.L.Recorder.stands new)
     (c.advance.ensures.failed is) (sym c.requires.keeps ∙ heavy.0) (subst (λ a. IsOver (g.L.Recorder.app old) plan_script (packets_of plan_script frames ++ packet_at plan_script c.args.number a ∷ [])) same
     (heavy.1 (packets_of plan.script.now frames) (read.follows good))))
