@@ -9,6 +9,7 @@ mod windows;
 
 use mos_program::run_own_process;
 use std::process::ExitCode;
+use windows::Stalls;
 
 fn main(rt: HostRuntime) -> ExitCode {
     run_own_process(rt, Stalls, rt.stdin(), rt.stdout(), rt.stderr())
