@@ -4,8 +4,6 @@ use Rattle.pcap_source.specs.declared.errors.OpenError.{OpenError}
 use Rattle.pcap_source.specs.declared.errors.OpenError.TheVariants as Open
 use Rattle.pcap_source.specs.declared.errors.NextError.{NextError}
 use Rattle.lane_core.specs.declared.errors.LaneError.{LaneError}
-use Rattle.lane_core.specs.declared.report.ReportError.{ReportError}
-use Rattle.lane_core.specs.declared.report.ReportError.TheVariants as LaneReport
 use Rattle.report_text.specs.declared.write.TextError.{TextError}
 use Rattle.report_text.specs.declared.write.TextError.TheVariants as Report
 use Rattle.worker_pool.specs.Refused.{read_refusal, lane_refusal as lane_failure}
@@ -26,12 +24,6 @@ header_refusal Open.ReadFault = ReadFault
 abbrev pub text_refusal : TextError → ReplayError
 text_refusal Report.WriteFault = WriteFault
 text_refusal Report.NoMemory = NoMemory
-
--- a report that one lane can't write
-abbrev pub report_refusal : ReportError → ReplayError
-report_refusal LaneReport.WriteFault = WriteFault
-report_refusal LaneReport.NoMemory = NoMemory
-report_refusal LaneReport.Heavy = Heavy
 
 -- what ends a run early while its capture is read, however many lanes it has
 abbrev pub pool_refusal : PoolError → ReplayError

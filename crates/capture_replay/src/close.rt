@@ -3,9 +3,9 @@
 ghost use Rattle.std.specs.Prelude.{◌≡◌, ◌≢◌, ◌⊎◌, ℕ, List, Option, length, not, true, false, IfErr, IsErrOf, IsOk};
 ghost use Rattle.std.specs.Io.KnownBytes.{Appends};
 ghost use Rattle.mos_bytes.specs.Writes.{WriteAdds};
-ghost use Rattle.report_text.specs.declared.record.Record.{Record};
 ghost use Rattle.report_text.specs.Ranges.{HaveTypes};
 ghost use Rattle.pcap_source.specs.Captured.{Captured};
+ghost use Rattle.lane_core.specs.KeptEnd.{shown_as};
 ghost use Rattle.lane_core.specs.Sight.{arrivals};
 ghost use Rattle.run_outcome.specs.Greatest.{greatest};
 ghost use Rattle.capture_replay.specs.Records.{packets_of};
@@ -18,39 +18,42 @@ ghost use Rattle.capture_replay.specs.Typed.{counted, shown};
 use crate::plan::Plan;
 use crate::summary::write_summary;
 use crate::{Output, ReplayError, VersionList};
+use app_api::App;
 use flow_timers::Moment;
 use lane_core::laws::{later_commands_change_none, weight_never_falls};
-use lane_core::{Reporter, version_of_each};
+use lane_core::{Close, RecordUnderWay, version_of_each, write_report_kept};
 use mos_bytes::Sink;
 use report_text::Totals;
 use std::alloc::Global;
 
-// Writes what is written at the end of a run without a report: what was made and counted, and nothing where packets were
-// handed on.
-fn write_counts<O: Sink>(
+// Writes what is written at the end of a run: a report, or what was made and counted; and nothing where packets were handed on.
+fn write_end<A: App, O: Sink>(
     alloc: Global,
     output: Output,
+    app: &A,
+    records: &[RecordUnderWay],
     totals: &Totals,
     out: &mut O,
 ) -> Result<(), ReplayError>
-    requires no_report { output ≢ Output.Report }
-    ensures text { (records : List Record)
-        → WriteAdds (O.taken out.old) (O.taken out.new) result (closing output records totals.now) }
-    ensures silent { is_forward output ≡ true → out.new ≡ out.old }
+    ensures text { WriteAdds (O.taken out.old) (O.taken out.new) result
+        (closing output (shown_as (A.meaning app.now) records.now) totals.now) }
+    ensures typed { output ≡ Output.Report → IsOk result
+        → HaveTypes (shown_as (A.meaning app.now) records.now) totals.now }
     ensures only { IfErr result
         (λ e. ((e ≡ ReplayError.WriteFault) × (is_forward output ≡ false)) ⊎ (e ≡ ReplayError.NoMemory)) }
     ensures to { Writes O.Sink out.old out.new (IsErrOf result ReplayError.WriteFault) }
 {
     match output {
+        Output::Report => write_report_kept(alloc, app, out, records, totals)?,
         Output::Summary(n) => write_summary(alloc, out, n, totals)?,
-        Output::Report | Output::Forward => {}
+        Output::Forward => {}
     }
     Ok(())
 }
 
 /// Ends a run whose lane took so many packets, of which `last` is the greatest moment, and behind which the capture has a
 /// tail of so many bytes.
-pub(crate) fn close<L: Reporter + Drop, O: Sink>(
+pub(crate) fn close<L: Close + Drop, O: Sink>(
     alloc: Global,
     plan: &Plan<'_>,
     lane: L,
@@ -82,20 +85,16 @@ pub(crate) fn close<L: Reporter + Drop, O: Sink>(
 {
     later_commands_change_none();
     weight_never_falls();
-    if let Output::Report = plan.output {
-        let items = lane.report(alloc, last, plan.natives, packets, tail, out)?;
-        return Ok(VersionList { items });
-    }
-    let end = lane.finish_kept(alloc, last, plan.natives)?;
-    let records = end.records.as_slice();
+    let closed = lane.close(alloc, last, plan.natives)?;
+    let records = closed.end.records.as_slice();
     let versions = version_of_each(alloc, records)?;
     let totals = Totals {
         packets,
         records: records.len() as u64,
-        callbacks: end.callbacks,
-        drops: end.drops,
+        callbacks: closed.end.callbacks,
+        drops: closed.end.drops,
         tail,
     };
-    write_counts(alloc, plan.output, &totals, out)?;
+    write_end(alloc, plan.output, &closed.app, records, &totals, out)?;
     Ok(VersionList { items: versions })
 }

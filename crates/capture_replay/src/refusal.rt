@@ -2,7 +2,7 @@
 
 ghost use Rattle.std.specs.Prelude.{◌≡◌};
 
-use lane_core::{LaneError, ReportError};
+use lane_core::LaneError;
 use mos_bytes::Failed;
 use pcap_source::{CaptureFault, NextError, OpenError};
 use report_text::TextError;
@@ -83,20 +83,6 @@ impl From<LaneError> for ReplayError {
 
     fn from(error: LaneError) -> Self {
         ReplayError::from(PoolError::from(error))
-    }
-}
-
-impl From<ReportError> for ReplayError {
-    ghost use Rattle.capture_replay.specs.Refusal.{report_refusal};
-
-    ghost from_gives = { λ e r. r ≡ report_refusal e };
-
-    fn from(error: ReportError) -> Self {
-        match error {
-            ReportError::WriteFault => ReplayError::WriteFault,
-            ReportError::NoMemory => ReplayError::NoMemory,
-            ReportError::Heavy => ReplayError::Heavy,
-        }
     }
 }
 

@@ -17,7 +17,7 @@ use crate::taking::take_at;
 use crate::{Output, ReplayError, VersionList};
 use app_api::App;
 use flow_timers::Moment;
-use lane_core::{Lane, Reporter};
+use lane_core::{Close, Lane};
 use mos_bytes::{Failed, Sink, Source};
 use pcap_source::{Capture, Frame, Step};
 use shared_forest::Table;
@@ -52,7 +52,7 @@ fn hand_on<S: Source, O: Sink>(
 }
 
 // Reads an opened capture, of which no packet has been read, to its end or its tail, and hands its packets to a lane.
-fn read_on<L: Reporter + Drop, S: Source, O: Sink>(
+fn read_on<L: Close + Drop, S: Source, O: Sink>(
     plan: &Plan<'_>,
     lane: L,
     capture: Capture,

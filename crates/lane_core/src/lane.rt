@@ -15,7 +15,7 @@ use crate::end::{Closed, KeptEnd, KeptRecords, LaneEnd};
 use crate::errors::LaneError;
 use crate::recorder::Recorder;
 use crate::records::Records;
-use crate::report::Reporter;
+use crate::report::{Close, Reporter};
 use crate::terms::PacketTerms;
 use app_api::{App, Verdict, presets_of};
 use flow_table::Key;
@@ -190,7 +190,7 @@ impl<A: App + Drop, F: Forests + Drop> Recorder for Lane<A, F> {
     }
 }
 
-impl<A: App + Drop, F: Forests + Drop> Reporter for Lane<A, F> {
+impl<A: App + Drop, F: Forests + Drop> Close for Lane<A, F> {
     type Application = A;
 
     fn close(
@@ -227,7 +227,9 @@ impl<A: App + Drop, F: Forests + Drop> Reporter for Lane<A, F> {
         };
         Ok(Closed { app, end })
     }
+}
 
+impl<A: App + Drop, F: Forests + Drop> Reporter for Lane<A, F> {
     fn finish_kept(
         self,
         alloc: Global,

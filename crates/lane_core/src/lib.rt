@@ -27,5 +27,5 @@ pub use end::{Closed, KeptEnd, KeptRecords, LaneEnd, VersionOfList, records_of};
 pub use errors::LaneError;
 pub use lane::Lane;
 pub use recorder::Recorder;
-pub use report::{Reporter, version_of_each, write_all_kept, write_report_kept};
+pub use report::{Close, Reporter, version_of_each, write_all_kept, write_report_kept};
 pub use under_way::RecordUnderWay;

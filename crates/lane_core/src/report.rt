@@ -26,10 +26,28 @@ use std::alloc::{AllocError, Global};
 
 /// A recorder that can end without a list of entries for each of its records.
 pub trait Reporter: Recorder {
+    /// Ends as `finish` does, but hands its records out as they were kept.
+    fn finish_kept(
+        self,
+        alloc: Global,
+        greatest: Option<Moment>,
+        natives: &NativeBook,
+    ) -> Result<KeptEnd, LaneError>
+        ensures failed { HadFailed (Self.failed self) (λ e. result ≡ Err e) }
+        ensures kept { Self.failed self ≡ None → IfOk result (λ end. ForEvents (Self.stands self) (λ events.
+            IsKeptEnd (Self.keeps self) (Self.app self) (ended_run (Self.app self) events greatest) end)) }
+        ensures light { OnOk result (KeepsWithin Self.keeps Self.app Self.stands self (IsHeavyBy greatest)) }
+        ensures heavy { Self.failed self ≡ None → result ≡ Err LaneError.Heavy
+            → KeepsTooMuch Self.keeps Self.app Self.stands self (IsHeavyBy greatest) };
+}
+
+/// A recorder that can end and hand out its application, too. It is a trait of its own, since a team's threads know no more of
+/// a recorder than that it is a `Reporter`.
+pub trait Close: Recorder {
     /// The application that it calls.
     type Application: App + Drop;
 
-    /// Ends as `finish` does, but hands its records out as they were kept, and its application, which tells their fields.
+    /// Ends as `finish_kept` does. The application tells the fields of the records.
     fn close(
         self,
         alloc: Global,
@@ -40,20 +58,6 @@ pub trait Reporter: Recorder {
         ensures app { IfOk result (λ closed. Self.Application.meaning closed.app ≡ Self.app self) }
         ensures kept { Self.failed self ≡ None → IfOk result (λ closed. ForEvents (Self.stands self) (λ events.
             IsKeptEnd (Self.keeps self) (Self.app self) (ended_run (Self.app self) events greatest) closed.end)) }
-        ensures light { OnOk result (KeepsWithin Self.keeps Self.app Self.stands self (IsHeavyBy greatest)) }
-        ensures heavy { Self.failed self ≡ None → result ≡ Err LaneError.Heavy
-            → KeepsTooMuch Self.keeps Self.app Self.stands self (IsHeavyBy greatest) };
-
-    /// Ends so, for who has the application.
-    fn finish_kept(
-        self,
-        alloc: Global,
-        greatest: Option<Moment>,
-        natives: &NativeBook,
-    ) -> Result<KeptEnd, LaneError>
-        ensures failed { HadFailed (Self.failed self) (λ e. result ≡ Err e) }
-        ensures kept { Self.failed self ≡ None → IfOk result (λ end. ForEvents (Self.stands self) (λ events.
-            IsKeptEnd (Self.keeps self) (Self.app self) (ended_run (Self.app self) events greatest) end)) }
         ensures light { OnOk result (KeepsWithin Self.keeps Self.app Self.stands self (IsHeavyBy greatest)) }
         ensures heavy { Self.failed self ≡ None → result ≡ Err LaneError.Heavy
             → KeepsTooMuch Self.keeps Self.app Self.stands self (IsHeavyBy greatest) };

@@ -15,7 +15,7 @@ use Rattle.lane_core.proofs.Ended.{ends_at, drops-kept}
 use Rattle.lane_core.proofs.Ending.{all_ended, version_of_all}
 use Rattle.lane_core.proofs.EndOfRun.{all_heavy}
 use Rattle.lane_core.proofs.Standing.{now_is, never_failed, is_light_at_end, err_is_heavy}
-use Rattle.lane_core.proofs.lane.LaneReporter.close.Goals as goal
+use Rattle.lane_core.proofs.lane.LaneClose.close.Goals as goal
 
 -- records that weigh too much are those of whatever events the lane stands for
 heavy_run : {F : Type 0} {store : Ghosts F} (app : Meaning) (keep : Bool) (records : Records F store) (failed : Option LaneError) (last : Option Moment) → failed ≡ None
