@@ -1,15 +1,16 @@
-use Rattle.std.proofs.Common.{◌++◌, ◌∷◌, [], subst, ◌∙◌}
+use Rattle.std.proofs.Common.{◌++◌, subst, ◌∙◌}
 use Rattle.control_script.specs.Order.{commands_of}
-use Rattle.lane_rings.specs.declared.items.Packet.{Packet}
+use Rattle.lane_rings.specs.declared.items.Batch.{Batch}
+use Rattle.lane_rings.specs.Batch.{packets_of}
 use Rattle.worker_pool.specs.Inputs.{IsInput}
 use Rattle.worker_pool.proofs.Inputs.{sent_on, sent_none}
-use Rattle.worker_pool.proofs.team.lane_input.send_to.Goals as goal
+use Rattle.worker_pool.proofs.team.lane_input.send_batch.Goals as goal
 
-pub returns-in-Ok : goal.returns-in-Ok
-returns-in-Ok g c = λ begin packets p.
+pub returns-in-Ok-clause-input : goal.returns-in-Ok-clause-input
+returns-in-Ok-clause-input g c = λ begin packets p.
     let script = commands_of c.args.context.now.script.now in
-    subst (λ (q : Packet). IsInput g.L.Recorder script begin (packets ++ q ∷ []) (record { packets = c.send.new.self; place = c.loop.input.place })) c.loop.invariant.same
-    (sent_on g.L.Recorder script begin packets c.loop.input c.send.new.self (c.loop.packet ∷ []) c.in-Ok.ensures.ring c.in-Ok.ensures.ok (c.loop.invariant.input begin packets p))
+    subst (λ (b : Batch). IsInput g.L.Recorder script begin (packets ++ packets_of b) (record c.loop.input { packets = c.send.new.self })) c.loop.invariant.same
+    (sent_on g.L.Recorder script begin packets c.loop.input c.send.new.self c.loop.batch c.in-Ok.ensures.ring c.in-Ok.ensures.ok c.loop.invariant.closed (c.loop.invariant.input begin packets p))
 
 pub make_room-made-requires : goal.make_room-made-requires
 make_room-made-requires g c =
@@ -28,6 +29,7 @@ loop-preserved g c =
     let script = commands_of c.args.context.now.script.now in
     record {
       same = c.in-Err.ensures.full.0 ∙ c.loop.invariant.same;
-      input = λ begin packets p. c.make_room-made.ensures begin packets
+      closed = c.make_room-made.ensures.open ∙ c.loop.invariant.closed;
+      input = λ begin packets p. c.make_room-made.ensures.input begin packets
           (sent_none g.L.Recorder script begin packets c.loop.input c.send.new.self c.in-Err.ensures.ring c.in-Err.ensures.full.1 (c.loop.invariant.input begin packets p));
     }
