@@ -67,8 +67,8 @@ as_sent script n low high frame floor_is ceil_is =
 -- ---- one input
 
 module _ {L : Type 0} (g : Ghosts L) (script : List Command) (begin : Worker L) (packets : List Packet) where
-  -- a batch was sent, where none was open
-  pub sent_on : (input : LaneInput L) (tx : RingTx Batch) (batch : Batch) → SameTx input.packets tx → sent tx ≡ sent input.packets ++ batch ∷ [] → input.open ≡ [] → IsInput g script begin packets input
+  -- a batch was sent, where no packet was unsent
+  pub sent_on : (input : LaneInput L) (tx : RingTx Batch) (batch : Batch) → SameTx input.packets tx → sent tx ≡ sent input.packets ++ batch ∷ [] → input.unsent ≡ [] → IsInput g script begin packets input
       → IsInput g script begin (packets ++ packets_of batch) (record input { packets = tx })
   sent_on input tx batch same gives none p =
       let before : packets_in (sent input.packets) ≡ packets = sym (append-nil (packets_in (sent input.packets))) ∙ ap (λ l. packets_in (sent input.packets) ++ l) (sym none) ∙ p.sent_are in
@@ -80,32 +80,36 @@ module _ {L : Type 0} (g : Ghosts L) (script : List Command) (begin : Worker L) 
         placed = p.placed;
       }
 
-  -- a packet went into the open batch
-  pub opened_on : (input : LaneInput L) (open more : List Packet) → open ≡ input.open ++ more → IsInput g script begin packets input → IsInput g script begin (packets ++ more) (record input { open = open })
-  opened_on input open more gives p = record {
+  -- a packet joined those that are unsent
+  pub opened_on : (input : LaneInput L) (rest more : List Packet) → rest ≡ input.unsent ++ more → IsInput g script begin packets input → IsInput g script begin (packets ++ more) (record input { unsent = rest })
+  opened_on input rest more gives p = record {
     lawful = p.lawful;
     ends = p.ends;
-    sent_are = ap (λ l. packets_in (sent input.packets) ++ l) gives ∙ sym (append_assoc (packets_in (sent input.packets)) input.open more) ∙ ap (λ l. l ++ more) p.sent_are;
+    sent_are = ap (λ l. packets_in (sent input.packets) ++ l) gives ∙ sym (append_assoc (packets_in (sent input.packets)) input.unsent more) ∙ ap (λ l. l ++ more) p.sent_are;
     placed = p.placed;
   }
 
-  -- the open batch was taken out
-  pub closed : (input : LaneInput L) (open : List Packet) → open ≡ [] → IsInput g script begin packets input → IsInput g script begin (packets_in (sent input.packets)) (record input { open = open })
-  closed input open none p = record {
+  -- those that are unsent were taken out
+  pub closed : (input : LaneInput L) (rest : List Packet) → rest ≡ [] → IsInput g script begin packets input → IsInput g script begin (packets_in (sent input.packets)) (record input { unsent = rest })
+  closed input rest none p = record {
     lawful = p.lawful;
     ends = p.ends;
     sent_are = ap (λ l. packets_in (sent input.packets) ++ l) none ∙ append-nil (packets_in (sent input.packets));
     placed = p.placed;
   }
 
-  -- no packet was in it
-  pub nothing_open : (input : LaneInput L) (open : List Packet) → open ≡ [] → length input.open ≡ 0 → IsInput g script begin packets input → IsInput g script begin packets (record input { open = open })
-  nothing_open input open none count p = record {
+  -- those that are unsent are the same
+  pub same_unsent : (input : LaneInput L) (rest : List Packet) → rest ≡ input.unsent → IsInput g script begin packets input → IsInput g script begin packets (record input { unsent = rest })
+  same_unsent input rest same p = record {
     lawful = p.lawful;
     ends = p.ends;
-    sent_are = ap (λ l. packets_in (sent input.packets) ++ l) (none ∙ sym (none_left input.open count)) ∙ p.sent_are;
+    sent_are = ap (λ l. packets_in (sent input.packets) ++ l) same ∙ p.sent_are;
     placed = p.placed;
   }
+
+  -- none was unsent
+  pub none_unsent : (input : LaneInput L) (rest : List Packet) → rest ≡ [] → length input.unsent ≡ 0 → IsInput g script begin packets input → IsInput g script begin packets (record input { unsent = rest })
+  none_unsent input rest none count p = same_unsent input rest (none ∙ sym (none_left input.unsent count)) p
 
   -- nothing was sent
   pub sent_none : (input : LaneInput L) (tx : RingTx Batch) → SameTx input.packets tx → sent tx ≡ sent input.packets → IsInput g script begin packets input
@@ -113,15 +117,15 @@ module _ {L : Type 0} (g : Ghosts L) (script : List Command) (begin : Worker L) 
   sent_none input tx same gives p = record {
     lawful = p.lawful;
     ends = ends_after input.packets tx begin.packets begin.packets p.ends same (SameRx-refl begin.packets);
-    sent_are = ap (λ l. packets_in l ++ input.open) gives ∙ p.sent_are;
+    sent_are = ap (λ l. packets_in l ++ input.unsent) gives ∙ p.sent_are;
     placed = p.placed;
   }
 
   -- a worker that is in this thread worked on
-  pub inline_worked : (tx : RingTx Batch) (open : List Packet) (a b : Worker L) → IsInput g script begin packets (record { packets = tx; open = open; place = Inline a }) → Worked g script a b
+  pub inline_worked : (tx : RingTx Batch) (rest : List Packet) (a b : Worker L) → IsInput g script begin packets (record { packets = tx; unsent = rest; place = Inline a }) → Worked g script a b
       → (g.failed b.lane ≡ None → IsReady g script b.lane b.commands)
-      → IsInput g script begin packets (record { packets = tx; open = open; place = Inline b })
-  inline_worked tx open a b p worked ready = record {
+      → IsInput g script begin packets (record { packets = tx; unsent = rest; place = Inline b })
+  inline_worked tx rest a b p worked ready = record {
     lawful = p.lawful;
     ends = p.ends;
     sent_are = p.sent_are;

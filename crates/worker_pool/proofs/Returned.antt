@@ -39,9 +39,9 @@ module _ {L : Type 0} (g : Ghosts L) (script : List Command) where
       → IsInput g script begin packets (record input { place = Inline back })
   back_in input back begin packets is on = record { lawful = is.lawful; ends = is.ends; sent_are = is.sent_are; placed = on }
 
-  -- it worked off what was left, beside the sending end, where nothing was open
+  -- it worked off what was left, beside the sending end, where no packet was unsent
   pub is_back : (input : LaneInput L) (back end : Worker L) (tx : RingTx Batch) → ((begin : Worker L) → IsPlaced g script begin input.place → WorkedOn g script begin back)
-      → Worked g script back end → sent tx ≡ sent input.packets → taken end.packets ≡ sent tx → input.open ≡ []
+      → Worked g script back end → sent tx ≡ sent input.packets → taken end.packets ≡ sent tx → input.unsent ≡ []
       → (begin : Worker L) (packets : List Packet) → IsInput g script begin packets input → HasServed g script begin packets end
   is_back input back end tx came worked same all none begin packets is = record {
     worked = worked_two g script begin back end (came begin is.placed).worked worked;

@@ -8,6 +8,7 @@ use Rattle.forest_versions.specs.Lawful.{are_lawful}
 use Rattle.forest_versions.specs.State.{start, control}
 use Rattle.control_script.specs.declared.stamped.Stamped.{Stamped}
 use Rattle.control_script.specs.Order.{commands_of}
+use Rattle.lane_rings.specs.declared.items.Packet.{Packet}
 use Rattle.lane_rings.specs.declared.items.Batch.{Batch}
 use Rattle.lane_rings.specs.declared.ring.RingTx.{RingTx}
 use Rattle.lane_rings.specs.Batch.{packets_in}
@@ -65,9 +66,9 @@ module _ {L : Type 0} (g : Ghosts L) where
       may_begin (commands_of script) can.app (get_or workers k w) (get_or packets k tx) can.lawful (t.each_new k w under) (t.each_ends k w tx under) (t.each_sent k tx below))
 
   -- a worker that may begin, at its input
-  pub fresh : (script : List Command) (w : Worker L) (tx : RingTx Batch) (place : WorkerPlace L) → MayBegin g script w tx → IsPlaced g script w place
-      → IsFresh g script w (record { packets = tx; open = []; place = place })
-  fresh script w tx place may placed = record { lawful = may.lawful; ends = may.ends; sent_are = ap (λ l. packets_in l ++ []) may.unsent; placed = placed }
+  pub fresh : (script : List Command) (w : Worker L) (tx : RingTx Batch) (rest : List Packet) (place : WorkerPlace L) → rest ≡ [] → MayBegin g script w tx → IsPlaced g script w place
+      → IsFresh g script w (record { packets = tx; unsent = rest; place = place })
+  fresh script w tx rest place none may placed = record { lawful = may.lawful; ends = may.ends; sent_are = ap (λ l. packets_in l ++ rest) may.unsent ∙ none; placed = placed }
 
   -- nothing was sent to these inputs
   pub inputs_of_none : (script : List Stamped) (begins : List (Worker L)) (inputs : List (LaneInput L)) → AllZip (IsFresh g (commands_of script)) begins inputs

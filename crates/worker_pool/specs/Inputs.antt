@@ -30,11 +30,11 @@ module _ {L : Type 0} where
   IsPlaced g script begin (Thread handle) = (handle.promise.start.value ≡ begin) × (commands_of handle.promise.script.value ≡ script)
   IsPlaced g script begin (Inline worker) = WorkedOn g script begin worker
 
-  -- the input of a worker that began so, to which these packets were given: they were sent, or wait in its open batch
+  -- the input of a worker that began so, to which these packets were given: they were sent, or are still unsent
   pub record IsInput (g : Ghosts L) (script : List Command) (begin : Worker L) (packets : List Packet) (input : LaneInput L) : Type 0 where
     pub lawful : IsTrue (are_lawful (start (g.app begin.lane).presets) script)
     pub ends : AreEnds input.packets begin.packets
-    pub sent_are : packets_in (sent input.packets) ++ input.open ≡ packets
+    pub sent_are : packets_in (sent input.packets) ++ input.unsent ≡ packets
     pub placed : IsPlaced g script begin input.place
 
   -- the inputs of workers that began so, to which the packets of these frames were sent, each to that of its lane

@@ -162,7 +162,7 @@ fn start_all<'s, E: 's, L: Recorder + Drop + Send + 's, D: WorkerRunner<L> + Syn
         let place = take_on(scope, context, script, stop, w);
         inputs.push_reserved(LaneInput {
             packets,
-            open: FlatBatch::new(alloc),
+            unsent: FlatBatch::new(alloc),
             place,
         });
     }

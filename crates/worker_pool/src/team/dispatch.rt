@@ -89,7 +89,7 @@ fn deal_frame<R: Wait, L: Recorder + Drop, G: Gate>(
     deal_to(context, &mut inputs[lane], used, lane, index, frame);
 }
 
-// Sends what is open for each lane where more may have to be read, so that nothing waits for what comes later.
+// Sends what is unsent for each lane where more may have to be read, so that nothing waits for what comes later.
 fn flush_before_read<R: Wait, L: Recorder + Drop, S: Source, G: Gate>(
     context: &WorkerContext<'_, R, G>,
     inputs: &mut Vec<LaneInput<L>>,

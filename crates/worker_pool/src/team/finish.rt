@@ -30,7 +30,7 @@ fn worker_back<R: Threads + Wait, L: Recorder + Drop>(rt: &R, place: WorkerPlace
     }
 }
 
-// Waits for the worker of an input, sends what is still open, and works off what is left in its packet ring.
+// Waits for the worker of an input, sends what is still unsent, and works off what is left in its packet ring.
 fn finish_one<R: Threads + Wait, L: Recorder + Drop, G: Gate>(
     context: &WorkerContext<'_, R, G>,
     input: LaneInput<L>,
@@ -40,13 +40,13 @@ fn finish_one<R: Threads + Wait, L: Recorder + Drop, G: Gate>(
 {
     let LaneInput {
         packets,
-        open,
+        unsent,
         place,
     } = input;
     let place = WorkerPlace::Inline(worker_back(context.rt, place));
     let mut input = LaneInput {
         packets,
-        open,
+        unsent,
         place,
     };
     flush(context, &mut input, FlatBatch::new(context.alloc));

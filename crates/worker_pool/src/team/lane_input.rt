@@ -29,7 +29,7 @@ const BYTES_IN_BATCH: usize = 65_536;
 pub struct LaneInput<L: Recorder + Drop> {
     pub(crate) packets: BatchTx,
     /// Packets that are still to be sent, behind all others.
-    pub(crate) open: FlatBatch,
+    pub(crate) unsent: FlatBatch,
     pub(crate) place: WorkerPlace<L>,
 }
 
@@ -43,7 +43,7 @@ fn make_room<R: Wait, L: Recorder + Drop, G: Gate>(
     ensures input { (begin : Begun L) (packets : List Sent)
         → IsInput L.Recorder (commands_of context.now.script.now) begin packets input.old
         → IsInput L.Recorder (commands_of context.now.script.now) begin packets input.new }
-    ensures open { input.new.open ≡ input.old.open }
+    ensures unsent { input.new.unsent ≡ input.old.unsent }
 {
     match &mut input.place {
         WorkerPlace::Thread(_) => false,
@@ -69,7 +69,7 @@ pub fn take_turns<R: Wait, L: Recorder + Drop, G: Gate>(
     took
 }
 
-// Sends a batch to a lane for which nothing is open. Where its ring has no room, a worker that is in this thread works,
+// Sends a batch to a lane for which no packet is unsent. Where its ring has no room, a worker that is in this thread works,
 // and one that is in its own is waited for.
 fn send_batch<R: Wait, L: Recorder + Drop, G: Gate>(
     context: &WorkerContext<'_, R, G>,
@@ -78,11 +78,11 @@ fn send_batch<R: Wait, L: Recorder + Drop, G: Gate>(
 )
     requires input { (begin : Begun L) × (packets : List Sent)
         × IsInput L.Recorder (commands_of context.now.script.now) begin packets input.old }
-    requires closed { input.old.open ≡ [] }
+    requires closed { input.old.unsent ≡ [] }
     ensures input { (begin : Begun L) (packets : List Sent)
         → IsInput L.Recorder (commands_of context.now.script.now) begin packets input.old
         → IsInput L.Recorder (commands_of context.now.script.now) begin (packets ++ packets_of batch) input.new }
-    ensures closed { input.new.open ≡ [] }
+    ensures closed { input.new.unsent ≡ [] }
 {
     let mut batch = batch;
     let mut backoff = Backoff::eager();
@@ -97,7 +97,7 @@ fn send_batch<R: Wait, L: Recorder + Drop, G: Gate>(
     unreachable!()
 }
 
-/// Sends the packets that are open for a lane. Where its ring has no room, a worker that is in this thread works, and one
+/// Sends the packets that are unsent for a lane. Where its ring has no room, a worker that is in this thread works, and one
 /// that is in its own is waited for. `fresh` is a batch of no packets, into which the next ones go.
 pub(crate) fn flush<R: Wait, L: Recorder + Drop, G: Gate>(
     context: &WorkerContext<'_, R, G>,
@@ -110,15 +110,15 @@ pub(crate) fn flush<R: Wait, L: Recorder + Drop, G: Gate>(
     ensures input { (begin : Begun L) (packets : List Sent)
         → IsInput L.Recorder (commands_of context.now.script.now) begin packets input.old
         → IsInput L.Recorder (commands_of context.now.script.now) begin packets input.new }
-    ensures closed { input.new.open ≡ [] }
+    ensures closed { input.new.unsent ≡ [] }
 {
-    let open = replace(&mut input.open, fresh);
-    if open.len() > 0 {
-        send_batch(context, input, Batch::Flat(open));
+    let unsent = replace(&mut input.unsent, fresh);
+    if unsent.len() > 0 {
+        send_batch(context, input, Batch::Flat(unsent));
     }
 }
 
-/// Sends a packet to a lane, behind what is open for it, as `flush` does.
+/// Sends a packet to a lane, behind what is unsent for it, as `flush` does.
 pub(crate) fn send_to<R: Wait, L: Recorder + Drop, G: Gate>(
     context: &WorkerContext<'_, R, G>,
     input: &mut LaneInput<L>,
@@ -159,7 +159,7 @@ fn is_full(batch: &FlatBatch) -> bool {
     batch.len() >= PACKETS_IN_BATCH || batch.byte_count() >= BYTES_IN_BATCH
 }
 
-// Adds a frame's packet to what is open for a lane. Where memory for that is refused, the frame itself is sent.
+// Adds a frame's packet to what is unsent for a lane. Where memory for that is refused, the frame itself is sent.
 fn add_to<R: Wait, L: Recorder + Drop, G: Gate>(
     context: &WorkerContext<'_, R, G>,
     input: &mut LaneInput<L>,
@@ -175,20 +175,22 @@ fn add_to<R: Wait, L: Recorder + Drop, G: Gate>(
         → IsInput L.Recorder (commands_of context.now.script.now) begin
         (packets ++ record { index = index; floor = floor; ceil = ceil; frame = frame.old } ∷ []) input.new }
 {
-    if input.open.push(index, floor, ceil, frame).is_ok() {
-        return;
+    match input.unsent.push(index, floor, ceil, frame) {
+        Ok(()) => {}
+        Err(_) => {
+            let frame = replace(frame, Frame::new(context.alloc));
+            let packet = Packet {
+                index,
+                floor,
+                ceil,
+                frame,
+            };
+            send_to(context, input, packet);
+        }
     }
-    let frame = replace(frame, Frame::new(context.alloc));
-    let packet = Packet {
-        index,
-        floor,
-        ceil,
-        frame,
-    };
-    send_to(context, input, packet);
 }
 
-/// Gives a frame's packet to a lane: it goes into what is open for the lane, and that is sent where it has become long.
+/// Gives a frame's packet to a lane: it joins what is unsent for the lane, and that is sent where it has become long.
 /// Batches that come back through `used` serve again.
 pub(crate) fn deal_to<R: Wait, L: Recorder + Drop, G: Gate>(
     context: &WorkerContext<'_, R, G>,
@@ -208,12 +210,11 @@ pub(crate) fn deal_to<R: Wait, L: Recorder + Drop, G: Gate>(
     let floor = context.script.floor(index);
     let ceil = context.script.ceil(index);
     add_to(context, input, index, floor, ceil, frame);
-    if is_full(&input.open) {
-        flush(context, input, fresh_batch(context.alloc, used, lane));
-    }
+    let is_due = is_full(&input.unsent);
+    flush_due(context, input, used, lane, is_due);
 }
 
-/// Sends what is open for each lane, as `flush` does.
+/// Sends what is unsent for each lane, as `flush` does.
 pub(crate) fn flush_all<R: Wait, L: Recorder + Drop, G: Gate>(
     context: &WorkerContext<'_, R, G>,
     inputs: &mut Vec<LaneInput<L>>,
@@ -226,16 +227,18 @@ pub(crate) fn flush_all<R: Wait, L: Recorder + Drop, G: Gate>(
         → AreInputs L.Recorder context.now.script.now begins frames inputs.new.items }
 {
     for lane in 0..inputs.len() {
-        flush_one(context, &mut inputs[lane], used, lane);
+        let is_due = inputs[lane].unsent.len() > 0;
+        flush_due(context, &mut inputs[lane], used, lane, is_due);
     }
 }
 
-// Sends what is open for a lane, where anything is.
-fn flush_one<R: Wait, L: Recorder + Drop, G: Gate>(
+// Sends what is unsent for a lane, where that is due.
+fn flush_due<R: Wait, L: Recorder + Drop, G: Gate>(
     context: &WorkerContext<'_, R, G>,
     input: &mut LaneInput<L>,
     used: &mut [BatchRx],
     lane: usize,
+    is_due: bool,
 )
     requires input { (begin : Begun L) × (packets : List Sent)
         × IsInput L.Recorder (commands_of context.now.script.now) begin packets input.old }
@@ -243,7 +246,7 @@ fn flush_one<R: Wait, L: Recorder + Drop, G: Gate>(
         → IsInput L.Recorder (commands_of context.now.script.now) begin packets input.old
         → IsInput L.Recorder (commands_of context.now.script.now) begin packets input.new }
 {
-    if input.open.len() > 0 {
+    if is_due {
         flush(context, input, fresh_batch(context.alloc, used, lane));
     }
 }

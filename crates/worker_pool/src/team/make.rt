@@ -23,8 +23,8 @@ const WAITING_BATCHES: usize = 256;
 /// How many packets may be on their way to all lanes of a run that is reported.
 const WAITING_IN_ALL: usize = 4096;
 
-// How many batches may wait for each of so many lanes of a run that is reported, beside one that is open and one that is
-// worked off. The more, the seldomer the thread that reads and a worker wait for each other.
+// How many batches may wait for each of so many lanes of a run that is reported, beside one that is still unsent and one
+// that is worked off. The more, the seldomer the thread that reads and a worker wait for each other.
 fn waiting_for_each(lanes: usize) -> usize
     requires some { 1 ≤ lanes }
     ensures some { 1 ≤ result }

@@ -9,6 +9,6 @@ pub returns-in-Inline-clause-input : goal.returns-in-Inline-clause-input
 returns-in-Inline-clause-input g c = λ begin packets p.
     let input = c.args.input.now in
     let script = commands_of c.args.context.now.script.now in
-    inline_worked g.L.Recorder script begin packets input.packets input.open c.in-Inline.worker c.take_turn.new.w
+    inline_worked g.L.Recorder script begin packets input.packets input.unsent c.in-Inline.worker c.take_turn.new.w
     (subst (λ (place : WorkerPlace g.row.L.Denot). IsInput g.L.Recorder script begin packets (record input { place = place })) c.in-Inline.is p)
     c.take_turn.ensures.worked c.take_turn.ensures.ready

@@ -29,7 +29,7 @@ loop-preserved g c =
     let script = commands_of c.args.context.now.script.now in
     record {
       same = c.in-Err.ensures.full.0 ∙ c.loop.invariant.same;
-      closed = c.make_room-made.ensures.open ∙ c.loop.invariant.closed;
+      closed = c.make_room-made.ensures.unsent ∙ c.loop.invariant.closed;
       input = λ begin packets p. c.make_room-made.ensures.input begin packets
           (sent_none g.L.Recorder script begin packets c.loop.input c.send.new.self c.in-Err.ensures.ring c.in-Err.ensures.full.1 (c.loop.invariant.input begin packets p));
     }
