@@ -29,7 +29,7 @@ struct Place {
 pub struct FlatBatch {
     places: Vec<Place>,
     bytes: Vec<u8>,
-    ghost within: { All (IsWithin (length bytes.items)) places.items }
+    ghost within: { All (IsWithin (length bytes.items)) places.items },
 }
 
 impl Model for FlatBatch {

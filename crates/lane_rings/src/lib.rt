@@ -15,8 +15,8 @@ mod ring;
 
 pub use batch::{FlatBatch, LentPacket};
 pub use items::{
-    Answer, AnswerRx, AnswerTx, Batch, BatchRx, BatchTx, CommandRx, CommandTx, Packet, PacketRx, PacketTx, answer_ring,
-    batch_ring, command_ring, packet_ring,
+    Answer, AnswerRx, AnswerTx, Batch, BatchRx, BatchTx, CommandRx, CommandTx, Packet, PacketRx,
+    PacketTx, answer_ring, batch_ring, command_ring, packet_ring,
 };
 pub use resequencer::Resequencer;
 pub use ring::{RingRx, RingTx};

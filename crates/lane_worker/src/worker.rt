@@ -26,8 +26,8 @@ use std::alloc::Global;
 use std::sync::Wait;
 use std::sync::atomic::{AtomicBool, Ordering};
 
-/// After so many turns a worker keeps memory at hand anew: what it had may be used up.
-const TURNS: u32 = 1024;
+/// After so many turns, each with all packets of a batch, a worker keeps memory at hand anew: what it had may be used up.
+const TURNS: u32 = 64;
 
 /// What one thread owns: a lane, and its ends of the rings.
 #[derive(Drop)]
@@ -47,11 +47,11 @@ pub struct Worker<L: Recorder + Drop> {
 
 /// Works until `stop` is raised and the packet ring then shows no packet.
 ///
-/// It takes the packets of its ring. For one that fits it takes places from the command ring until the lane's version
-/// is at least the packet's floor, and then those that the ring shows, up to the packet's ceiling; the lane takes one
-/// command of the script for each. Then the lane takes the packet, and with an answer ring its verdict is sent. A
-/// packet that doesn't fit is let go. Where the lane fails, `failed` is raised, and from then on packets and places are
-/// taken unread and no answer is sent.
+/// It takes the batches of its ring, and the packets of each in order. For one that fits it takes places from the
+/// command ring until the lane's version is at least the packet's floor, and then those that the ring shows, up to
+/// the packet's ceiling; the lane takes one command of the script for each. Then the lane takes the packet, and with
+/// an answer ring its verdict is sent. A packet that doesn't fit is let go. Where the lane fails, `failed` is raised,
+/// and from then on packets and places are taken unread and no answer is sent.
 ///
 /// It may be called again with the worker that it answers. It waits for packets, for places and for room in the answer
 /// ring.

@@ -241,7 +241,9 @@ fn run_threads<
             ensures same { result.2.ghost_name ≡ feed.entry.ghost_name }
         {
             let control = start_control(scope, move || publish(commands, count, gate));
-            let mut inputs = start_all(scope, runner, script, stops, alloc, workers, packets, inputs);
+            let mut inputs = start_all(
+                scope, runner, script, stops, alloc, workers, packets, inputs,
+            );
             let read = feed.send_packets(&mut inputs);
             raise_all(stops);
             join_control(rt, control);

@@ -86,7 +86,7 @@ loop-frame-preserved g c =
       live = c.in_ok-next.ensures.live.1 (ap (λ s. Ok s) c.in-Frame.is);
       count = moved.count ∙ ap (λ n. n + 1) inv.count;
       few = let within = moved.within in let count = moved.count in let before = inv.count in omega (arith, within, count, before);
-      some = 
+      some =
           let given = c.requires.inputs in
           let old = read.2 given.0 given.1 in
           let new = c.flush_before_read.ensures given.0 read.0 old in
