@@ -4,7 +4,7 @@ ghost use Rattle.std.specs.Prelude.{◌≡◌, ◌≤◌, List, length, false};
 ghost use mathlib.Core.List.{IsPrefix};
 ghost use Rattle.app_api.specs.App.{Meaning};
 ghost use Rattle.pcap_source.specs.Captured.{Captured};
-ghost use Rattle.lane_rings.specs.declared.items.Packet.{Packet};
+ghost use Rattle.lane_rings.specs.declared.items.Batch.{Batch};
 ghost use Rattle.lane_rings.specs.declared.ring.RingTx.{RingTx};
 ghost use Rattle.lane_core.specs.Run.{LaneEvent};
 ghost use Rattle.lane_worker.specs.declared.worker.Worker.{Worker as Begun};
@@ -30,12 +30,12 @@ use worker_pool::team::ends::lanes_have_come;
 /// This function does nothing: who ends a forward run calls it for what it says.
 pub(crate) fn lanes_have_answered<L: Recorder + Drop>(script: &Script, workers: &[Worker<L>])
     ensures front { (app : Meaning) (frames told : List Captured) (begins : List (Begun L))
-        (packets : List (RingTx Packet)) (all_answers : List Answers)
+        (packets : List (RingTx Batch)) (all_answers : List Answers)
         → length frames ≤ 1048576 → IsTeam L.Recorder app begins packets → AllKeep L.Recorder false begins
         → HaveServed L.Recorder script.now begins frames workers.now → AreLaneAnswers begins frames all_answers
         → IsPrefix frames told
         → LeavesFront app script.now frames told workers.now }
-    ensures whole { (app : Meaning) (frames : List Captured) (begins : List (Begun L)) (packets : List (RingTx Packet))
+    ensures whole { (app : Meaning) (frames : List Captured) (begins : List (Begun L)) (packets : List (RingTx Batch))
         (all_answers : List Answers)
         → length frames ≤ 1048576 → IsTeam L.Recorder app begins packets → AllKeep L.Recorder false begins
         → HaveServed L.Recorder script.now begins frames workers.now → AreLaneAnswers begins frames all_answers

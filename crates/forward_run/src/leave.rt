@@ -5,7 +5,7 @@ ghost use Rattle.mos_bytes.specs.Causes.{Rose};
 ghost use Rattle.app_api.specs.App.{Meaning};
 ghost use Rattle.pcap_source.specs.Captured.{Captured};
 ghost use Rattle.pcap_source.specs.Reading.{CaptureState, frames_at};
-ghost use Rattle.lane_rings.specs.declared.items.Packet.{Packet};
+ghost use Rattle.lane_rings.specs.declared.items.Batch.{Batch};
 ghost use Rattle.lane_rings.specs.declared.ring.RingTx.{RingTx};
 ghost use Rattle.control_script.specs.declared.stamped.Stamped.{Stamped};
 ghost use Rattle.control_script.specs.Order.{commands_of};
@@ -86,10 +86,10 @@ pub(crate) fn leave<R: Threads + Sync, L: Reporter + Drop + Send, O: Sink, G>(
     out: &mut O,
 ) -> Result<VersionList, PoolError>
     requires served { (app : Meaning) × (frames : List Captured) × (begins : List (Begun L))
-        × (packets : List (RingTx Packet))
+        × (packets : List (RingTx Batch))
         × IsTeam L.Recorder app begins packets × HaveServed L.Recorder context.now.script.now begins frames workers.items
         × AreLaneAnswers begins frames dealing.all_answers.items }
-    ensures ends { (app : Meaning) (frames : List Captured) (begins : List (Begun L)) (packets : List (RingTx Packet))
+    ensures ends { (app : Meaning) (frames : List Captured) (begins : List (Begun L)) (packets : List (RingTx Batch))
         (start : CaptureState) (old new before : Option (List ℕ)) (rest : List ℕ)
         → length frames ≤ 1048576 → IsTeam L.Recorder app begins packets → AllKeep L.Recorder false begins
         → HaveServed L.Recorder context.now.script.now begins frames workers.items
@@ -97,7 +97,7 @@ pub(crate) fn leave<R: Threads + Sync, L: Reporter + Drop + Send, O: Sink, G>(
         → old ≡ Some rest
         → ForwardsOver app context.now.script.now (length begins) (frames_at start rest) before (O.taken out.new) result }
     ensures never_heavy { (app : Meaning) (frames : List Captured) (begins : List (Begun L))
-        (packets : List (RingTx Packet))
+        (packets : List (RingTx Batch))
         (start : CaptureState) (old new before : Option (List ℕ))
         → length frames ≤ 1048576 → IsTeam L.Recorder app begins packets → AllKeep L.Recorder false begins
         → HaveServed L.Recorder context.now.script.now begins frames workers.items

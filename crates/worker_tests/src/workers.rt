@@ -12,7 +12,9 @@ use crate::plain::{natives, script};
 use app_api::{LogApp, Reason, Verdict};
 use control_script::Script;
 use lane_core::{Lane, Recorder};
-use lane_rings::{AnswerRx, CommandTx, Packet, PacketTx, answer_ring, command_ring, packet_ring};
+use lane_rings::{
+    AnswerRx, Batch, BatchTx, CommandTx, FlatBatch, Packet, answer_ring, batch_ring, command_ring,
+};
 use lane_worker::{OpenGate, Worker, work};
 use shared_forest::{ForestStore, StoreUser, Table};
 use std::alloc::{AllocError, Global};
@@ -27,7 +29,7 @@ const SCRIPT: &str = "at 100 reg 16 pkt_in snd do drop\nlive unreg 16";
 // The other ends of a worker's rings.
 #[derive(Drop)]
 struct Ends {
-    packets: PacketTx,
+    packets: BatchTx,
     commands: CommandTx,
     answers: AnswerRx,
 }
@@ -59,7 +61,7 @@ fn worker<L: Recorder + Drop>(
     ensures ready { IfOk result (λ r. IsReady L.Recorder (commands_of script.now) r.0.lane r.0.commands) }
     ensures app { IfOk result (λ r. L.app r.0.lane ≡ L.app lane) }
 {
-    let (packet_tx, packets) = packet_ring(alloc, places)?;
+    let (packet_tx, packets) = batch_ring(alloc, places)?;
     let (command_tx, commands) = command_ring(alloc, places)?;
     let (answer_tx, answers) = answer_ring(alloc, places)?;
     let worker = Worker {
@@ -115,7 +117,7 @@ fn send(ends: &mut Ends, alloc: Global, index: u64, floor: u32, ceil: u32) -> bo
         ceil,
         frame,
     };
-    ends.packets.send(packet).is_ok()
+    ends.packets.send(Batch::Single(packet)).is_ok()
 }
 
 // Takes an answer, and waits for it.
@@ -250,13 +252,28 @@ fn send_all(ends: &mut Ends, alloc: Global, packets: &[(u64, u32, u32)]) -> bool
     true
 }
 
-// What a worker that finds all in its rings answers, called twice.
+// The same, in one flat batch.
+fn send_flat(ends: &mut Ends, alloc: Global, packets: &[(u64, u32, u32)]) -> bool {
+    let mut batch = FlatBatch::new(alloc);
+    for (index, floor, ceil) in packets {
+        let Ok(frame) = captured(alloc, &higher(&SYN, (*index % 256) as u8)) else {
+            return false;
+        };
+        if batch.push(*index, *floor, *ceil, &frame).is_err() {
+            return false;
+        }
+    }
+    ends.packets.send(Batch::Flat(batch)).is_ok()
+}
+
+// What a worker that finds all in its rings answers, called twice. The first packets come one by one, or in a flat batch.
 fn work_twice<R: Wait, L: Recorder + Drop>(
     rt: &R,
     alloc: Global,
     lane: L,
     script: &Script,
     flags: &Flags,
+    is_flat: bool,
 ) -> Option<(Answered, Answered)>
     requires stands { L.stands lane [] }
     requires given { L.given lane ≡ 0 }
@@ -265,7 +282,11 @@ fn work_twice<R: Wait, L: Recorder + Drop>(
 {
     let (w, mut ends) = worker(alloc, lane, script, 8).ok()?;
     let told = ends.commands.send(0).is_ok() && ends.commands.send(1).is_ok();
-    let sent = send_all(&mut ends, alloc, &SENT);
+    let sent = if is_flat {
+        send_flat(&mut ends, alloc, &SENT)
+    } else {
+        send_all(&mut ends, alloc, &SENT)
+    };
     let w = work_plainly(rt, alloc, w, script, flags);
     let first = answered(&w, &mut ends);
     let sent = sent && send(&mut ends, alloc, 7, 2, 2);
@@ -283,6 +304,7 @@ fn answers_twice<R: Wait>(
     rt: &R,
     alloc: Global,
     fails_at: Option<u64>,
+    is_flat: bool,
 ) -> Option<(Answered, Answered, bool)> {
     let script = script(alloc, SCRIPT)?;
     let Ok(inner) = Lane::new(alloc, LogApp, Table::new(alloc), true) else {
@@ -290,14 +312,14 @@ fn answers_twice<R: Wait>(
     };
     let flags = new_flags(true);
     let (first, second) = match fails_at {
-        None => work_twice(rt, alloc, inner, &script, &flags)?,
+        None => work_twice(rt, alloc, inner, &script, &flags, is_flat)?,
         Some(at) => {
             let lane = Failing {
                 inner,
                 at,
                 has_failed: false,
             };
-            work_twice(rt, alloc, lane, &script, &flags)?
+            work_twice(rt, alloc, lane, &script, &flags, is_flat)?
         }
     };
     Some((first, second, flags.failed.load(Ordering::SeqCst)))
@@ -321,10 +343,12 @@ const ROWS: &[(&str, Option<u64>, (Answered, Answered, bool))] = &[
 #[test]
 fn a_worker_answers_what_fits(rt: HostRuntime) {
     for &(name, fails_at, want) in ROWS {
-        assert!(rt;
-            answers_twice(&rt, rt.alloc(), fails_at) == Some(want),
-            "{name}"
-        );
+        for is_flat in [false, true] {
+            assert!(rt;
+                answers_twice(&rt, rt.alloc(), fails_at, is_flat) == Some(want),
+                "{name}, flat: {is_flat}"
+            );
+        }
     }
 }
 
@@ -341,7 +365,7 @@ fn gives_back<R: Wait, L: Recorder + Drop>(
     requires lawful { IsTrue (are_lawful (start (L.app lane).presets) (commands_of script.now)) }
 {
     let (mut w, mut ends) = worker(alloc, lane, script, 4).ok()?;
-    let (used_tx, mut used) = packet_ring(alloc, 4).ok()?;
+    let (used_tx, mut used) = batch_ring(alloc, 4).ok()?;
     w.answers = None;
     w.used = Some(used_tx);
     if !send_all(&mut ends, alloc, &[(1, 0, 0), (1, 0, 0), (2, 0, 0)]) {
