@@ -1,2 +1,4 @@
 pub mod Ring
+pub mod Places
+pub mod Batch
 pub mod Waiting

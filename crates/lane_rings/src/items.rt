@@ -3,6 +3,7 @@
 ghost use Rattle.std.specs.Prelude.{◌≡◌, ◌≤◌, [], IfOk};
 ghost use Rattle.lane_rings.specs.Ring.{sent, free, taken, known, AreEnds};
 
+use crate::batch::FlatBatch;
 use crate::ring::{RingRx, RingTx, ring};
 use app_api::Verdict;
 use pcap_source::Frame;
@@ -20,6 +21,15 @@ pub struct Packet {
     pub frame: Frame,
 }
 
+/// What goes to a lane at once.
+#[derive(Drop)]
+pub enum Batch {
+    /// One packet, with a frame of its own.
+    Single(Packet),
+    /// Packets whose bytes stand one behind the other.
+    Flat(FlatBatch),
+}
+
 /// What a lane says of a packet, with the packet's frame on its way back.
 #[derive(Drop)]
 pub struct Answer {
@@ -33,6 +43,10 @@ pub struct Answer {
 pub type PacketTx = RingTx<Packet>;
 /// The end of a packet ring that takes: the lane's.
 pub type PacketRx = RingRx<Packet>;
+/// The end of a batch ring that sends: the dispatcher's.
+pub type BatchTx = RingTx<Batch>;
+/// The end of a batch ring that takes: the lane's.
+pub type BatchRx = RingRx<Batch>;
 /// The end of a command ring that sends places in the script: the control thread's.
 pub type CommandTx = RingTx<u32>;
 /// The end of a command ring that takes: the lane's.
@@ -44,6 +58,16 @@ pub type AnswerRx = RingRx<Answer>;
 
 /// A ring for packets, of `cap` places. It asks at least one.
 pub fn packet_ring(alloc: Global, cap: usize) -> Result<(PacketTx, PacketRx), AllocError>
+    requires places { 1 ≤ cap }
+    ensures ends { IfOk result (λ r. AreEnds r.0 r.1) }
+    ensures sent { IfOk result (λ r. (sent r.0 ≡ []) × (free r.0 ≡ cap)) }
+    ensures taken { IfOk result (λ r. (taken r.1 ≡ []) × (known r.1 ≡ [])) }
+{
+    ring(alloc, cap)
+}
+
+/// A ring for batches of packets, of `cap` places. It asks at least one.
+pub fn batch_ring(alloc: Global, cap: usize) -> Result<(BatchTx, BatchRx), AllocError>
     requires places { 1 ≤ cap }
     ensures ends { IfOk result (λ r. AreEnds r.0 r.1) }
     ensures sent { IfOk result (λ r. (sent r.0 ≡ []) × (free r.0 ≡ cap)) }

@@ -8,13 +8,15 @@
 //! Tests: `worker_tests` (rings).
 #![tactic(auto)]
 
+mod batch;
 mod items;
 mod resequencer;
 mod ring;
 
+pub use batch::{FlatBatch, LentPacket};
 pub use items::{
-    Answer, AnswerRx, AnswerTx, CommandRx, CommandTx, Packet, PacketRx, PacketTx, answer_ring,
-    command_ring, packet_ring,
+    Answer, AnswerRx, AnswerTx, Batch, BatchRx, BatchTx, CommandRx, CommandTx, Packet, PacketRx,
+    PacketTx, answer_ring, batch_ring, command_ring, packet_ring,
 };
 pub use resequencer::Resequencer;
 pub use ring::{RingRx, RingTx};

@@ -20,7 +20,7 @@ module _ {T : Type 0} where
   pub looked : (a b : RingRx T) → SameRx a b → taken b ≡ taken a → IsPrefix (known a) (known b) → Takes a b []
   looked a b ring same more = record { ring = ring; gone = same ∙ sym (append-nil (taken a)); order = more }
 
-  none_left : (xs : List T) → length xs ≡ 0 → xs ≡ []
+  pub none_left : (xs : List T) → length xs ≡ 0 → xs ≡ []
   none_left [] none = refl
   none_left (x ∷ xs) none = absurd (cc)
 

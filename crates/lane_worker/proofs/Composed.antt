@@ -1,9 +1,13 @@
 -- What a worker did in one call, and then in another.
 use Rattle.std.proofs.Common.{◌≡◌, ◌≢◌, ℕ, ◌≤◌, Option, Some, None, List, [], ◌∷◌, ◌++◌, length, map, drop, refl, sym, ap, subst, ◌∙◌, arith}
 use Rattle.std.proofs.lemmas.List.{append-nil, length-append, map-append}
+use Rattle.std.proofs.lemmas.List.Concat.{flat_map-append}
 use Rattle.forest_versions.specs.declared.command.Command.{Command}
 use Rattle.lane_rings.specs.declared.items.Packet.{Packet}
+use Rattle.lane_rings.specs.declared.items.Batch.{Batch}
+use Rattle.lane_rings.specs.declared.ring.RingTx.{RingTx}
 use Rattle.lane_rings.specs.declared.ring.RingRx.{RingRx}
+use Rattle.lane_rings.specs.Batch.{packets_of, packets_in}
 use Rattle.lane_core.specs.declared.recorder.Recorder.{Ghosts}
 use Rattle.lane_worker.specs.declared.worker.Worker.{Worker}
 use Rattle.lane_worker.specs.Steps.{Turn, events_of, answers_of}
@@ -43,10 +47,21 @@ module _ {L : Type 0} (g : Ghosts L) (script : List Command) where
     heavy = λ is. absurd (cc);
   }
 
+  ran_none : (a : Worker L) → g.failed a.lane ≡ None → Ran g script a a [] []
+  ran_none a well = record {
+    turns = [];
+    done = [];
+    bad = [];
+    of_packets = refl;
+    went = went_none (at_hand g a) a.lane well;
+    of_places = λ ok. refl;
+    answers = λ events s. sends_none a.answers;
+  }
+
   -- nothing but a look into the packet ring
-  pub worked_looked : (a : Worker L) (ring : RingRx Packet) → Takes a.packets ring [] → Worked g script a (record a { packets = ring })
+  pub worked_looked : (a : Worker L) (ring : RingRx Batch) → Takes a.packets ring [] → Worked g script a (record a { packets = ring })
   worked_looked a ring took = record {
-    packets = [];
+    batches = [];
     places = [];
     number = refl;
     took_packets = took;
@@ -56,24 +71,151 @@ module _ {L : Type 0} (g : Ghosts L) (script : List Command) where
     keeps = refl;
     stayed = λ bad. refl;
     silent = λ bad. sends_none a.answers;
-    ran = λ well. record {
-      turns = [];
-      done = [];
-      bad = [];
-      of_packets = refl;
-      went = went_none (at_hand g a) a.lane well;
-      of_places = λ ok. refl;
-      answers = λ events s. sends_none a.answers;
+    ran = λ well. let r = ran_none a well in record {
+      turns = r.turns;
+      done = r.done;
+      bad = r.bad;
+      of_packets = r.of_packets;
+      went = r.went;
+      of_places = r.of_places;
+      answers = r.answers;
     };
   }
 
-  -- a packet was taken out of the ring and taken up
-  pub worked_one : (a b : Worker L) (ring : RingRx Packet) (p : Packet) → Takes a.packets ring (p ∷ []) → TookUp g script (record a { packets = ring }) b p → Worked g script a b
-  worked_one a b ring p took up = record {
-    packets = p ∷ [];
+  -- a batch was taken out of the ring and taken up
+  pub worked_one : (a b : Worker L) (ring : RingRx Batch) (batch : Batch) → Takes a.packets ring (batch ∷ []) → TookUp g script (record a { packets = ring }) b (packets_of batch) → Worked g script a b
+  worked_one a b ring batch took up = record {
+    batches = batch ∷ [];
     places = up.places;
     number = up.number;
-    took_packets = subst (λ (r : RingRx Packet). Takes a.packets r (p ∷ [])) (sym up.same) took;
+    took_packets = subst (λ (r : RingRx Batch). Takes a.packets r (batch ∷ [])) (sym up.same) took;
+    took_places = up.took_places;
+    answering = up.answering;
+    app = up.app;
+    keeps = up.keeps;
+    stayed = up.stayed;
+    silent = up.silent;
+    ran = λ well. let r = up.ran well in record {
+      turns = r.turns;
+      done = r.done;
+      bad = r.bad;
+      of_packets = r.of_packets ∙ sym (append-nil (packets_of batch));
+      went = r.went;
+      of_places = r.of_places;
+      answers = r.answers;
+    };
+  }
+
+  module _ (a b c : Worker L) (xs ys : List Packet) (ps qs : List ℕ) (took : Takes a.commands b.commands ps) (app : g.app b.lane ≡ g.app a.lane) (keeps : g.keeps b.lane ≡ g.keeps a.lane)
+      (stayed : g.failed b.lane ≢ None → c.lane ≡ b.lane) (silent : g.failed b.lane ≢ None → Sends b.answers c.answers [])
+      (first : g.failed a.lane ≡ None → Ran g script a b xs ps) (then : g.failed b.lane ≡ None → Ran g script b c ys qs) where
+    ran_two : g.failed a.lane ≡ None → g.failed b.lane ≡ None → Ran g script a c (xs ++ ys) (ps ++ qs)
+    ran_two well between =
+        let r = first well in
+        let s = then between in
+        let kept = known_kept a.commands b.commands ps took in
+        let version = r.went.version between in
+        let places = r.of_places between in
+        record {
+          turns = r.turns ++ s.turns;
+          done = r.done ++ s.done;
+          bad = s.bad;
+          of_packets = map-append (λ t. t.packet) r.turns s.turns ∙ ap (λ l. l ++ map (λ t. t.packet) s.turns) r.of_packets ∙ ap (λ l. xs ++ l) s.of_packets;
+          went = went_two g script (at_hand g a) (at_hand g b) r.turns s.turns a.lane b.lane c.lane r.done r.bad s.done s.bad r.went s.went between
+              (let less : at_hand g a ≤ at_hand g b = omega (arith, kept, version, places) in less) app keeps;
+          of_places = λ ok.
+              let e = ap length (given-append r.done s.done) in
+              let f = length-append (given_by r.done) (given_by s.done) in
+              let h = s.of_places ok in
+              let n = length-append ps qs in
+              omega (arith, e, f, h, n, places);
+          answers = λ events stands.
+              let one = r.answers events stands in
+              let now : g.stands b.lane (events ++ events_of r.done) =
+              subst (λ l. g.stands b.lane (events ++ events_of l)) (ap (λ l. r.done ++ l) (r.went.good between) ∙ append-nil r.done) (r.went.stands events stands) in
+              let two = subst (λ m. Sends b.answers c.answers (answers_of m (events ++ events_of r.done) s.done)) app (s.answers (events ++ events_of r.done) now) in
+              subst (Sends a.answers c.answers) (sym (answers-append (g.app a.lane) events r.done s.done))
+              (sends_then a.answers b.answers c.answers (answers_of (g.app a.lane) events r.done) (answers_of (g.app a.lane) (events ++ events_of r.done) s.done) one two);
+        }
+
+    ran_failed : g.failed a.lane ≡ None → g.failed b.lane ≢ None → Ran g script a c (xs ++ ys) (ps ++ qs)
+    ran_failed well between =
+        let r = first well in
+        let same = stayed between in
+        record {
+          turns = r.turns ++ unread ys;
+          done = r.done;
+          bad = r.bad;
+          of_packets = map-append (λ t. t.packet) r.turns (unread ys) ∙ ap (λ l. l ++ map (λ t. t.packet) (unread ys)) r.of_packets ∙ ap (λ l. xs ++ l) (unread_are ys);
+          went = subst (λ (l : L). WentOn g script (at_hand g a) (r.turns ++ unread ys) a.lane l r.done r.bad) (sym same)
+              (went_failed g script (at_hand g a) r.turns (unread ys) a.lane b.lane r.done r.bad r.went between);
+          of_places = λ ok. absurd (between (subst (λ (l : L). g.failed l ≡ None) same ok));
+          answers = λ events stands. subst (Sends a.answers c.answers) (append-nil (answers_of (g.app a.lane) events r.done))
+              (sends_then a.answers b.answers c.answers (answers_of (g.app a.lane) events r.done) [] (r.answers events stands) (silent between));
+        }
+
+    -- a lane ran, and then on, or it had failed
+    ran_both : g.failed a.lane ≡ None → Ran g script a c (xs ++ ys) (ps ++ qs)
+    ran_both well = by_failure (g.failed b.lane) (ran_two well) (ran_failed well)
+
+  still : (a b : Worker L) → (g.failed a.lane ≢ None → b.lane ≡ a.lane) → g.failed a.lane ≢ None → g.failed b.lane ≢ None
+  still a b stayed bad is = bad (subst (λ (l : L). g.failed l ≡ None) (stayed bad) is)
+
+  -- one call, and then another
+  pub worked_two : (a b c : Worker L) → Worked g script a b → Worked g script b c → Worked g script a c
+  worked_two a b c p q = record {
+    batches = p.batches ++ q.batches;
+    places = p.places ++ q.places;
+    number = q.number ∙ p.number;
+    took_packets = takes_then a.packets b.packets c.packets p.batches q.batches p.took_packets q.took_packets;
+    took_places = takes_then a.commands b.commands c.commands p.places q.places p.took_places q.took_places;
+    answering = SameAnswers-trans a.answers b.answers c.answers p.answering q.answering;
+    app = q.app ∙ p.app;
+    keeps = q.keeps ∙ p.keeps;
+    stayed = λ bad. q.stayed (still a b p.stayed bad) ∙ p.stayed bad;
+    silent = λ bad. sends_then a.answers b.answers c.answers [] [] (p.silent bad) (q.silent (still a b p.stayed bad));
+    ran = λ well. subst (λ l. Ran g script a c l (p.places ++ q.places)) (sym (flat_map-append packets_of p.batches q.batches))
+        (ran_both a b c (packets_in p.batches) (packets_in q.batches) p.places q.places p.took_places p.app p.keeps q.stayed q.silent p.ran q.ran well);
+  }
+
+  pub worked_none : (a : Worker L) → Worked g script a a
+  worked_none a = worked_looked a a.packets (takes_none a.packets)
+
+  -- packets were taken up, and then others
+  pub took_two : (a b c : Worker L) (xs ys : List Packet) → TookUp g script a b xs → TookUp g script b c ys → TookUp g script a c (xs ++ ys)
+  took_two a b c xs ys p q = record {
+    places = p.places ++ q.places;
+    same = q.same ∙ p.same;
+    number = q.number ∙ p.number;
+    took_places = takes_then a.commands b.commands c.commands p.places q.places p.took_places q.took_places;
+    answering = SameAnswers-trans a.answers b.answers c.answers p.answering q.answering;
+    app = q.app ∙ p.app;
+    keeps = q.keeps ∙ p.keeps;
+    stayed = λ bad. q.stayed (still a b p.stayed bad) ∙ p.stayed bad;
+    silent = λ bad. sends_then a.answers b.answers c.answers [] [] (p.silent bad) (q.silent (still a b p.stayed bad));
+    ran = ran_both a b c xs ys p.places q.places p.took_places p.app p.keeps q.stayed q.silent p.ran q.ran;
+  }
+
+  pub took_none : (a : Worker L) → TookUp g script a a []
+  took_none a = record {
+    places = [];
+    same = refl;
+    number = refl;
+    took_places = takes_none a.commands;
+    answering = SameAnswers-refl a.answers;
+    app = refl;
+    keeps = refl;
+    stayed = λ bad. refl;
+    silent = λ bad. sends_none a.answers;
+    ran = ran_none a;
+  }
+
+  -- what goes back counts for nothing
+  pub took_giving_back : (a b : Worker L) (used : Option (RingTx Batch)) (packets : List Packet) → TookUp g script a b packets → TookUp g script a (record b { used = used }) packets
+  took_giving_back a b used packets up = record {
+    places = up.places;
+    same = up.same;
+    number = up.number;
     took_places = up.took_places;
     answering = up.answering;
     app = up.app;
@@ -90,71 +232,3 @@ module _ {L : Type 0} (g : Ghosts L) (script : List Command) where
       answers = r.answers;
     };
   }
-
-  module _ (a b c : Worker L) (p : Worked g script a b) (q : Worked g script b c) where
-    ran_two : g.failed a.lane ≡ None → g.failed b.lane ≡ None → Ran g script a c (p.packets ++ q.packets) (p.places ++ q.places)
-    ran_two well between =
-        let r = p.ran well in
-        let s = q.ran between in
-        let kept = known_kept a.commands b.commands p.places p.took_places in
-        let version = r.went.version between in
-        let places = r.of_places between in
-        record {
-          turns = r.turns ++ s.turns;
-          done = r.done ++ s.done;
-          bad = s.bad;
-          of_packets = map-append (λ t. t.packet) r.turns s.turns ∙ ap (λ l. l ++ map (λ t. t.packet) s.turns) r.of_packets ∙ ap (λ l. p.packets ++ l) s.of_packets;
-          went = went_two g script (at_hand g a) (at_hand g b) r.turns s.turns a.lane b.lane c.lane r.done r.bad s.done s.bad r.went s.went between
-              (let less : at_hand g a ≤ at_hand g b = omega (arith, kept, version, places) in less) p.app p.keeps;
-          of_places = λ ok.
-              let e = ap length (given-append r.done s.done) in
-              let f = length-append (given_by r.done) (given_by s.done) in
-              let h = s.of_places ok in
-              let n = length-append p.places q.places in
-              omega (arith, e, f, h, n, places);
-          answers = λ events stands.
-              let first = r.answers events stands in
-              let now : g.stands b.lane (events ++ events_of r.done) =
-              subst (λ l. g.stands b.lane (events ++ events_of l)) (ap (λ l. r.done ++ l) (r.went.good between) ∙ append-nil r.done) (r.went.stands events stands) in
-              let second = subst (λ m. Sends b.answers c.answers (answers_of m (events ++ events_of r.done) s.done)) p.app (s.answers (events ++ events_of r.done) now) in
-              subst (Sends a.answers c.answers) (sym (answers-append (g.app a.lane) events r.done s.done))
-              (sends_then a.answers b.answers c.answers (answers_of (g.app a.lane) events r.done) (answers_of (g.app a.lane) (events ++ events_of r.done) s.done) first second);
-        }
-
-    ran_failed : g.failed a.lane ≡ None → g.failed b.lane ≢ None → Ran g script a c (p.packets ++ q.packets) (p.places ++ q.places)
-    ran_failed well between =
-        let r = p.ran well in
-        let same = q.stayed between in
-        record {
-          turns = r.turns ++ unread q.packets;
-          done = r.done;
-          bad = r.bad;
-          of_packets = map-append (λ t. t.packet) r.turns (unread q.packets) ∙ ap (λ l. l ++ map (λ t. t.packet) (unread q.packets)) r.of_packets ∙ ap (λ l. p.packets ++ l) (unread_are q.packets);
-          went = subst (λ (l : L). WentOn g script (at_hand g a) (r.turns ++ unread q.packets) a.lane l r.done r.bad) (sym same)
-              (went_failed g script (at_hand g a) r.turns (unread q.packets) a.lane b.lane r.done r.bad r.went between);
-          of_places = λ ok. absurd (between (subst (λ (l : L). g.failed l ≡ None) same ok));
-          answers = λ events stands. subst (Sends a.answers c.answers) (append-nil (answers_of (g.app a.lane) events r.done))
-              (sends_then a.answers b.answers c.answers (answers_of (g.app a.lane) events r.done) [] (r.answers events stands) (q.silent between));
-        }
-
-    still : g.failed a.lane ≢ None → g.failed b.lane ≢ None
-    still bad is = bad (subst (λ (l : L). g.failed l ≡ None) (p.stayed bad) is)
-
-    -- one call, and then another
-    pub worked_two : Worked g script a c
-    worked_two = record {
-      packets = p.packets ++ q.packets;
-      places = p.places ++ q.places;
-      number = q.number ∙ p.number;
-      took_packets = takes_then a.packets b.packets c.packets p.packets q.packets p.took_packets q.took_packets;
-      took_places = takes_then a.commands b.commands c.commands p.places q.places p.took_places q.took_places;
-      answering = SameAnswers-trans a.answers b.answers c.answers p.answering q.answering;
-      app = q.app ∙ p.app;
-      keeps = q.keeps ∙ p.keeps;
-      stayed = λ bad. q.stayed (still bad) ∙ p.stayed bad;
-      silent = λ bad. sends_then a.answers b.answers c.answers [] [] (p.silent bad) (q.silent (still bad));
-      ran = λ well. by_failure (g.failed b.lane) (ran_two well) (ran_failed well);
-    }
-
-  pub worked_none : (a : Worker L) → Worked g script a a
-  worked_none a = worked_looked a a.packets (takes_none a.packets)

@@ -1,6 +1,6 @@
 -- A worker that takes up a packet.
 use Rattle.std.proofs.Common.{◌≡◌, ◌≢◌, ℕ, ◌+◌, true, false, Bool, Option, Some, None, List, [], ◌∷◌, ◌++◌, length, take, drop, refl, sym, ap, subst, ◌∙◌, arith}
-use Rattle.std.specs.Prelude.{if◌then◌else◌, Ok, Err, IfSome}
+use Rattle.std.specs.Prelude.{if◌then◌else◌, Result, Ok, Err, IfSome}
 use Rattle.std.proofs.lemmas.List.{append-nil}
 use mathlib.Core.List.{IsPrefix}
 use Rattle.app_api.specs.declared.reaction.Verdict.{Verdict}
@@ -8,6 +8,7 @@ use Rattle.forest_versions.specs.declared.command.Command.{Command}
 use Rattle.forest_versions.specs.State.{control}
 use Rattle.lane_rings.specs.declared.items.Packet.{Packet}
 use Rattle.lane_rings.specs.declared.items.Answer.{Answer}
+use Rattle.lane_rings.specs.declared.items.Batch.{Batch}
 use Rattle.lane_rings.specs.declared.ring.RingRx.{RingRx}
 use Rattle.lane_rings.specs.declared.ring.RingTx.{RingTx}
 use Rattle.lane_rings.specs.Ring.{taken, known}
@@ -31,28 +32,29 @@ module _ {L : Type 0} (g : Ghosts L) (script : List Command) where
   under_of lane ring r = r.in_force ∙ ap (λ n. control (g.app lane).presets (take n script)) (sym r.version)
 
   -- a worker that was ready is ready again
-  pub ready_again : (a b : Worker L) (packets : List Packet) (places : List ℕ) → IsReady g script a.lane a.commands → Ran g script a b packets places → Takes a.commands b.commands places
-      → g.failed b.lane ≡ None → IsUnder g script b.lane
-      → IsReady g script b.lane b.commands
-  ready_again a b packets places r ran took well under =
-      let more = taken_more a.commands b.commands places took in
-      let count = ran.of_places well in
-      let only : ran.done ++ ran.bad ≡ ran.done = ap (λ l. ran.done ++ l) (ran.went.good well) ∙ append-nil ran.done in
-      let version : g.given b.lane ≡ length (taken b.commands) = let v = ran.went.version well in let w = r.version in omega (arith, v, w, more, count) in
-      let next : IsPrefix (given_by ran.done) (drop (length (taken a.commands)) script) =
-      subst (λ v. IsPrefix (given_by ran.done) (drop v script)) r.version (subst (λ l. IsPrefix (given_by l) (drop (g.given a.lane) script)) only ran.went.commands) in
+  pub ready_again : (a b : L) (from to : RingRx ℕ) (p : Packet) (result : Result Verdict LaneError) → IsReady g script a from → Turned g script a b from to p result → g.failed b ≡ None → IsUnder g script b
+      → IsReady g script b to
+  ready_again a b from to p result r turned well under =
+      let done = turned.done in
+      let went = turned.went in
+      let more = taken_more from to turned.places turned.took in
+      let count = turned.of_places well in
+      let only : done ++ turned.bad ≡ done = ap (λ l. done ++ l) (went.good well) ∙ append-nil done in
+      let version : g.given b ≡ length (taken to) = let v = went.version well in let w = r.version in omega (arith, v, w, more, count) in
+      let next : IsPrefix (given_by done) (drop (length (taken from)) script) =
+      subst (λ v. IsPrefix (given_by done) (drop v script)) r.version (subst (λ l. IsPrefix (given_by l) (drop (g.given a) script)) only went.commands) in
       record {
-        events = r.events ++ events_of ran.done;
-        stands = subst (λ l. g.stands b.lane (r.events ++ events_of l)) only (ran.went.stands r.events r.stands);
-        commands = commands-append r.events (events_of ran.done) ∙ ap (λ l. l ++ given_by ran.done) r.commands ∙ sym (take-two script (given_by ran.done) (length (taken a.commands)) next)
-            ∙ ap (λ n. take n script) (let e : length (taken a.commands) + length (given_by ran.done) ≡ length (taken b.commands) = omega (arith, more, count) in e);
+        events = r.events ++ events_of done;
+        stands = subst (λ l. g.stands b (r.events ++ events_of l)) only (went.stands r.events r.stands);
+        commands = commands-append r.events (events_of done) ∙ ap (λ l. l ++ given_by done) r.commands ∙ sym (take-two script (given_by done) (length (taken from)) next)
+            ∙ ap (λ n. take n script) (let e : length (taken from) + length (given_by done) ≡ length (taken to) = omega (arith, more, count) in e);
         version = version;
-        in_force = under ∙ ap (λ n. control (g.app b.lane).presets (take n script)) version;
+        in_force = under ∙ ap (λ n. control (g.app b).presets (take n script)) version;
       }
 
   module _ (a : Worker L) (p : Packet) where
     -- one that doesn't fit is let go
-    pub let_go : g.failed a.lane ≡ None → fits (length script) (g.last a.lane) (g.given a.lane) p ≡ false → TookUp g script a a p
+    pub let_go : g.failed a.lane ≡ None → fits (length script) (g.last a.lane) (g.given a.lane) p ≡ false → TookUp g script a a (p ∷ [])
     let_go well unfit = record {
       places = [];
       same = refl;
@@ -88,7 +90,7 @@ module _ {L : Type 0} (g : Ghosts L) (script : List Command) where
 
     -- a lane that had failed takes nothing
     pub skipped : (ring : RingRx ℕ) (o : Option ℕ) → IfSome o (λ place. Takes a.commands ring (place ∷ [])) → (o ≡ None → Takes a.commands ring [] × (known ring ≡ [])) → g.failed a.lane ≢ None
-        → TookUp g script a (record a { commands = ring }) p
+        → TookUp g script a (record a { commands = ring }) (p ∷ [])
     skipped ring (Some place) some none bad = record {
       places = place ∷ [];
       same = refl;
@@ -116,9 +118,9 @@ module _ {L : Type 0} (g : Ghosts L) (script : List Command) where
 
     -- a packet that fits was handed over, and answered where the lane did
     module _ (lane : L) (ring : RingRx ℕ) (well : g.failed a.lane ≡ None) (app : g.app lane ≡ g.app a.lane) (keeps : g.keeps lane ≡ g.keeps a.lane) where
-      pub answered : (answers : Option (RingTx Answer)) (used : Option (RingTx Packet)) (v : Verdict) → Turned g script a.lane lane a.commands ring p (Ok v)
+      pub answered : (answers : Option (RingTx Answer)) (used : Option (RingTx Batch)) (v : Verdict) → Turned g script a.lane lane a.commands ring p (Ok v)
           → Sends a.answers answers (answer_to p v ∷ [])
-          → TookUp g script a (record a { lane = lane; commands = ring; answers = answers; used = used }) p
+          → TookUp g script a (record a { lane = lane; commands = ring; answers = answers; used = used }) (p ∷ [])
       answered answers used v t sends = record {
         places = t.places;
         same = refl;
@@ -140,7 +142,7 @@ module _ {L : Type 0} (g : Ghosts L) (script : List Command) where
         };
       }
 
-      pub unanswered : (e : LaneError) → Turned g script a.lane lane a.commands ring p (Err e) → TookUp g script a (record a { lane = lane; commands = ring }) p
+      pub unanswered : (e : LaneError) → Turned g script a.lane lane a.commands ring p (Err e) → TookUp g script a (record a { lane = lane; commands = ring }) (p ∷ [])
       unanswered e t = record {
         places = t.places;
         same = refl;

@@ -1,10 +1,13 @@
 -- Only for proofs. What one packet, and the places that are taken for it, make of a lane and of its ring of places.
-use Rattle.std.specs.Prelude.{◌≡◌, ◌≢◌, ℕ, ◌+◌, Some, None, List, [], ◌∷◌, ◌++◌, length, map, take, drop, slice_get, Result, Ok, Err}
+use Rattle.std.specs.Prelude.{◌≡◌, ◌≢◌, ℕ, ◌+◌, Option, Some, None, List, [], ◌∷◌, ◌++◌, length, map, take, drop, slice_get, Result, Ok, Err}
 use mathlib.Core.List.{IsPrefix}
 use Rattle.app_api.specs.declared.reaction.Verdict.{Verdict}
 use Rattle.forest_versions.specs.declared.command.Command.{Command}
 use Rattle.forest_versions.specs.State.{control}
 use Rattle.lane_rings.specs.declared.items.Packet.{Packet}
+use Rattle.lane_rings.specs.declared.items.Answer.{Answer}
+use Rattle.lane_rings.specs.declared.items.Batch.{Batch}
+use Rattle.lane_rings.specs.declared.ring.RingTx.{RingTx}
 use Rattle.lane_rings.specs.declared.ring.RingRx.{RingRx}
 use Rattle.lane_rings.specs.Ring.{known}
 use Rattle.lane_core.specs.declared.errors.LaneError.{LaneError}
@@ -62,8 +65,8 @@ module _ {L : Type 0} (g : Ghosts L) (script : List Command) where
     pub under : g.failed b ≡ None → IsUnder b
     pub light : g.failed b ≢ Some Heavy
 
-  -- what a worker made of a packet that it had taken out of its ring
-  pub record TookUp (a b : Worker L) (p : Packet) : Type 0 where
+  -- what a worker made of packets that it had taken out of its ring
+  pub record TookUp (a b : Worker L) (packets : List Packet) : Type 0 where
     pub places : List ℕ
     pub same : b.packets ≡ a.packets
     pub number : b.number ≡ a.number
@@ -73,4 +76,10 @@ module _ {L : Type 0} (g : Ghosts L) (script : List Command) where
     pub keeps : g.keeps b.lane ≡ g.keeps a.lane
     pub stayed : g.failed a.lane ≢ None → b.lane ≡ a.lane
     pub silent : g.failed a.lane ≢ None → Sends a.answers b.answers []
-    pub ran : g.failed a.lane ≡ None → Ran g script a b (p ∷ []) places
+    pub ran : g.failed a.lane ≡ None → Ran g script a b packets places
+
+  -- a worker's lane decided a packet: whoever sends its verdict has then taken it up
+  abbrev pub Decided : Worker L → Worker L → Packet → Verdict → Type 0
+  Decided a b p verdict =
+      (answers : Option (RingTx Answer)) (used : Option (RingTx Batch)) → Sends b.answers answers (answer_to p verdict ∷ [])
+      → TookUp a (record b { answers = answers; used = used }) (p ∷ [])

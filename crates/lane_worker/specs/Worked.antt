@@ -5,8 +5,10 @@ use Rattle.forest_versions.specs.declared.command.Command.{Command}
 use Rattle.forest_versions.specs.State.{control}
 use Rattle.lane_rings.specs.declared.items.Packet.{Packet}
 use Rattle.lane_rings.specs.declared.items.Answer.{Answer}
+use Rattle.lane_rings.specs.declared.items.Batch.{Batch}
 use Rattle.lane_rings.specs.declared.ring.RingTx.{RingTx}
 use Rattle.lane_rings.specs.declared.ring.RingRx.{RingRx}
+use Rattle.lane_rings.specs.Batch.{packets_in}
 use Rattle.lane_rings.specs.Ring.{sent, taken, known, SameTx, SameRx}
 use Rattle.lane_core.specs.declared.errors.LaneError.TheVariants.{Heavy}
 use Rattle.lane_core.specs.declared.recorder.Recorder.{Ghosts}
@@ -79,20 +81,20 @@ module _ {L : Type 0} where
       pub of_places : g.failed b.lane ≡ None → length (commands_of (events_of done)) ≡ length places
       pub answers : (events : List LaneEvent) → g.stands a.lane events → Sends a.answers b.answers (answers_of (g.app a.lane) events done)
 
-    -- what a worker did from a to b: it took these packets and places out of its rings. A lane that had failed stays as it was, and no
+    -- what a worker did from a to b: it took these batches and places out of its rings. A lane that had failed stays as it was, and no
     -- answer is sent; any other ran
     pub record Worked (a b : Worker L) : Type 0 where
-      pub packets : List Packet
+      pub batches : List Batch
       pub places : List ℕ
       pub number : b.number ≡ a.number
-      pub took_packets : Takes a.packets b.packets packets
+      pub took_packets : Takes a.packets b.packets batches
       pub took_places : Takes a.commands b.commands places
       pub answering : SameAnswers a.answers b.answers
       pub app : g.app b.lane ≡ g.app a.lane
       pub keeps : g.keeps b.lane ≡ g.keeps a.lane
       pub stayed : g.failed a.lane ≢ None → b.lane ≡ a.lane
       pub silent : g.failed a.lane ≢ None → Sends a.answers b.answers []
-      pub ran : g.failed a.lane ≡ None → Ran a b packets places
+      pub ran : g.failed a.lane ≡ None → Ran a b (packets_in batches) places
 
     -- a worker whose lane has failed or is ready
     abbrev pub MayWork : Worker L → Type 0

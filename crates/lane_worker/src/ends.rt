@@ -2,12 +2,14 @@
 
 ghost use Rattle.std.specs.Prelude.{◌≡◌, ◌++◌, [], ◌∷◌, None, IfSome};
 ghost use Rattle.lane_rings.specs.Ring.{sent, known, SameTx};
+ghost use Rattle.lane_rings.specs.Places.{lent};
 ghost use Rattle.lane_worker.specs.Steps.{answer_to};
 ghost use Rattle.lane_worker.specs.Worked.{Takes, Sends};
 
 use crate::backoff::Backoff;
 use app_api::Verdict;
-use lane_rings::{Answer, AnswerTx, Packet, PacketTx, RingRx};
+use lane_rings::{Answer, AnswerTx, Batch, BatchTx, LentPacket, Packet, RingRx};
+use std::alloc::Global;
 use std::sync::Wait;
 
 /// Takes the oldest item of a ring; none where it shows none.
@@ -40,14 +42,14 @@ fn send_waiting<R: Wait>(rt: &R, tx: &mut AnswerTx, answer: Answer)
 pub(crate) fn send_answer<R: Wait>(
     rt: &R,
     answers: &mut Option<AnswerTx>,
-    used: &mut Option<PacketTx>,
+    used: &mut Option<BatchTx>,
     packet: Packet,
     verdict: Verdict,
 )
     ensures { Sends answers.old answers.new (answer_to packet verdict ∷ []) }
 {
     let Some(tx) = answers else {
-        give_back(used, packet);
+        give_back(used, Batch::Single(packet));
         return;
     };
     let answer = Answer {
@@ -58,9 +60,46 @@ pub(crate) fn send_answer<R: Wait>(
     send_waiting(rt, tx, answer);
 }
 
-// Gives a packet back through the ring for it. Without one, or where it is full, the packet is let go.
-fn give_back(used: &mut Option<PacketTx>, packet: Packet) {
+// A packet of its own that is the same. Where memory for it is refused, it waits.
+fn own_packet<R: Wait>(rt: &R, alloc: Global, packet: &LentPacket<'_>) -> Packet
+    ensures { result ≡ lent packet.now }
+{
+    let mut backoff = Backoff::eager();
+    for _ in rt.forever() {
+        if let Ok(own) = packet.to_packet(alloc) {
+            return own;
+        }
+        backoff.pause(rt);
+    }
+    unreachable!()
+}
+
+/// Sends what a lane says of a packet of a flat batch where there is a ring for it, with a copy of its frame. It waits
+/// where the ring is full, and where memory is refused.
+pub(crate) fn send_copy<R: Wait>(
+    rt: &R,
+    alloc: Global,
+    answers: &mut Option<AnswerTx>,
+    packet: &LentPacket<'_>,
+    verdict: Verdict,
+)
+    ensures { Sends answers.old answers.new (answer_to (lent packet.now) verdict ∷ []) }
+{
+    let Some(tx) = answers else {
+        return;
+    };
+    let Packet { index, frame, .. } = own_packet(rt, alloc, packet);
+    let answer = Answer {
+        index,
+        verdict,
+        frame,
+    };
+    send_waiting(rt, tx, answer);
+}
+
+/// Gives a batch back through the ring for it. Without one, or where it is full, the batch is let go.
+pub(crate) fn give_back(used: &mut Option<BatchTx>, batch: Batch) {
     if let Some(tx) = used {
-        let _ = tx.send(packet);
+        let _ = tx.send(batch);
     }
 }

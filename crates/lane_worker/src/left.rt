@@ -11,7 +11,7 @@ use crate::context::WorkerContext;
 use crate::gate::Gate;
 use crate::worker::{Worker, work_in};
 use lane_core::Recorder;
-use lane_rings::PacketTx;
+use lane_rings::BatchTx;
 use std::sync::Wait;
 use std::sync::atomic::AtomicBool;
 
@@ -22,7 +22,7 @@ use std::sync::atomic::AtomicBool;
 pub fn work_off<R: Wait, L: Recorder + Drop, G: Gate>(
     context: &WorkerContext<'_, R, G>,
     w: Worker<L>,
-    packets: &mut PacketTx,
+    packets: &mut BatchTx,
 ) -> Worker<L>
     requires ends { AreEnds packets.old w.packets }
     requires ready { MayWork L.Recorder (commands_of context.now.script.now) w }

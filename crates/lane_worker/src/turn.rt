@@ -4,6 +4,7 @@ ghost use Rattle.std.specs.Prelude.{◌≡◌, ◌+◌, ◌≤◌, length, true,
 ghost use Rattle.forest_versions.specs.Lawful.{are_lawful};
 ghost use Rattle.forest_versions.specs.State.{start};
 ghost use Rattle.control_script.specs.Order.{commands_of};
+ghost use Rattle.lane_rings.specs.Places.{lent};
 ghost use Rattle.lane_worker.specs.Steps.{fits, is_behind};
 ghost use Rattle.lane_worker.specs.Turning.{IsUnder, Turned};
 
@@ -11,8 +12,9 @@ use crate::context::WorkerContext;
 use crate::places::take_places;
 use app_api::Verdict;
 use control_script::Script;
+use flow_timers::Moment;
 use lane_core::{LaneError, Recorder};
-use lane_rings::{CommandRx, Packet};
+use lane_rings::{CommandRx, LentPacket};
 use pcap_source::RECORD_LIMIT;
 use std::sync::Wait;
 
@@ -27,8 +29,8 @@ fn may_follow(last: Option<u64>, index: u64) -> bool
 }
 
 /// Whether a packet may be handed to a lane.
-pub(crate) fn is_fit<L: Recorder>(lane: &L, script: &Script, packet: &Packet) -> bool
-    ensures fits { result ≡ fits (length (commands_of script.now)) (L.last lane.now) (L.given lane.now) packet.now }
+pub(crate) fn is_fit<L: Recorder>(lane: &L, script: &Script, packet: &LentPacket<'_>) -> bool
+    ensures fits { result ≡ fits (length (commands_of script.now)) (L.last lane.now) (L.given lane.now) (lent packet.now) }
     ensures few { IsTrue result → packet.now.ceil ≤ 4096 }
 {
     may_follow(lane.newest(), packet.index)
@@ -43,15 +45,15 @@ pub(crate) fn hand_over<R: Wait, L: Recorder, G>(
     context: &WorkerContext<'_, R, G>,
     lane: &mut L,
     commands: &mut CommandRx,
-    packet: &Packet,
+    packet: &LentPacket<'_>,
 ) -> Result<Verdict, LaneError>
     requires good { L.failed lane.old ≡ None }
     requires lawful { IsTrue (are_lawful (start (L.app lane.old).presets) (commands_of context.now.script.now)) }
     requires under { IsUnder L.Recorder (commands_of context.now.script.now) lane.old }
-    requires fits { fits (length (commands_of context.now.script.now)) (L.last lane.old) (L.given lane.old) packet.now ≡ true }
+    requires fits { fits (length (commands_of context.now.script.now)) (L.last lane.old) (L.given lane.old) (lent packet.now) ≡ true }
     requires few { packet.now.ceil ≤ 4096 }
     ensures turned { Turned L.Recorder
-        (commands_of context.now.script.now) lane.old lane.new commands.old commands.new packet.now result }
+        (commands_of context.now.script.now) lane.old lane.new commands.old commands.new (lent packet.now) result }
     ensures ok { OnOk result (L.failed lane.new ≡ None) }
     ensures under { OnOk result (IsUnder L.Recorder (commands_of context.now.script.now) lane.new) }
     ensures fails { IfErr result (λ e. L.failed lane.new ≡ Some e) }
@@ -59,5 +61,15 @@ pub(crate) fn hand_over<R: Wait, L: Recorder, G>(
     ensures keeps { L.keeps lane.new ≡ L.keeps lane.old }
 {
     take_places(context, lane, commands, packet.floor, packet.ceil)?;
-    lane.packet(context.alloc, packet.index, &packet.frame, context.natives)
+    let moment = Moment {
+        seconds: packet.seconds,
+        fraction: packet.fraction,
+    };
+    lane.packet_at(
+        context.alloc,
+        packet.index,
+        moment,
+        packet.bytes,
+        context.natives,
+    )
 }

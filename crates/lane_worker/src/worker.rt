@@ -1,30 +1,33 @@
 //! A worker and its work.
 
-ghost use Rattle.std.specs.Prelude.{◌≡◌, ◌≤◌, [], length, IsTrue, None, true, false};
+ghost use Rattle.std.specs.Prelude.{◌≡◌, ◌≤◌, [], ◌∷◌, length, IsTrue, IfSome, None, true, false};
 ghost use Rattle.forest_versions.specs.Lawful.{are_lawful};
 ghost use Rattle.forest_versions.specs.State.{start};
 ghost use Rattle.control_script.specs.Order.{commands_of};
+ghost use Rattle.lane_rings.specs.Batch.{packets_of};
+ghost use Rattle.lane_rings.specs.Places.{lent};
 ghost use Rattle.lane_rings.specs.Ring.{known};
 ghost use Rattle.lane_worker.specs.Steps.{fits};
 ghost use Rattle.lane_worker.specs.Worked.{MayWork, IsReady, Worked};
-ghost use Rattle.lane_worker.specs.Turning.{TookUp};
+ghost use Rattle.lane_worker.specs.Turning.{Decided, TookUp};
 
 use crate::at_hand::keep_at_hand;
 use crate::backoff::Backoff;
 use crate::context::WorkerContext;
-use crate::ends::{send_answer, take_from};
+use crate::ends::{give_back, send_answer, send_copy, take_from};
 use crate::gate::Gate;
 use crate::turn::{hand_over, is_fit};
+use app_api::Verdict;
 use control_script::Script;
 use lane_core::Recorder;
-use lane_rings::{AnswerTx, CommandRx, Packet, PacketRx, PacketTx};
+use lane_rings::{AnswerTx, Batch, BatchRx, BatchTx, CommandRx, FlatBatch, LentPacket, Packet};
 use native_filters::NativeBook;
 use std::alloc::Global;
 use std::sync::Wait;
 use std::sync::atomic::{AtomicBool, Ordering};
 
-/// After so many turns a worker keeps memory at hand anew: what it had may be used up.
-const TURNS: u32 = 1024;
+/// After so many turns, each with all packets of a batch, a worker keeps memory at hand anew: what it had may be used up.
+const TURNS: u32 = 64;
 
 /// What one thread owns: a lane, and its ends of the rings.
 #[derive(Drop)]
@@ -32,24 +35,23 @@ pub struct Worker<L: Recorder + Drop> {
     /// The number of the lane, from 0.
     pub number: usize,
     pub lane: L,
-    /// The packets of the lane.
-    pub packets: PacketRx,
+    /// The packets of the lane, in batches.
+    pub packets: BatchRx,
     /// Places in the script: for each, the lane may take the script's next command.
     pub commands: CommandRx,
     /// Where the lane's verdicts go; none where nobody waits for them.
     pub answers: Option<AnswerTx>,
-    /// Where packets go back that no answer takes along, so that the memory of their frames serves again; none where they
-    /// are let go.
-    pub used: Option<PacketTx>,
+    /// Where batches go back that no answer takes along, so that their memory serves again; none where they are let go.
+    pub used: Option<BatchTx>,
 }
 
 /// Works until `stop` is raised and the packet ring then shows no packet.
 ///
-/// It takes the packets of its ring. For one that fits it takes places from the command ring until the lane's version
-/// is at least the packet's floor, and then those that the ring shows, up to the packet's ceiling; the lane takes one
-/// command of the script for each. Then the lane takes the packet, and with an answer ring its verdict is sent. A
-/// packet that doesn't fit is let go. Where the lane fails, `failed` is raised, and from then on packets and places are
-/// taken unread and no answer is sent.
+/// It takes the batches of its ring, and the packets of each in order. For one that fits it takes places from the
+/// command ring until the lane's version is at least the packet's floor, and then those that the ring shows, up to
+/// the packet's ceiling; the lane takes one command of the script for each. Then the lane takes the packet, and with
+/// an answer ring its verdict is sent. A packet that doesn't fit is let go. Where the lane fails, `failed` is raised,
+/// and from then on packets and places are taken unread and no answer is sent.
 ///
 /// It may be called again with the worker that it answers. It waits for packets, for places and for room in the answer
 /// ring.
@@ -119,8 +121,8 @@ fn backoff_of<L: Recorder + Drop>(w: &Worker<L>) -> Backoff {
     }
 }
 
-/// Takes a packet out of the ring, and makes of it what the lane can, as `work` does. False where the ring shows none. It
-/// waits for the places that the packet needs, and for room in the answer ring.
+/// Takes a batch out of the ring, and makes of its packets what the lane can, as `work` does. False where the ring shows
+/// none. It waits for the places that the packets need, and for room in the answer ring.
 pub fn take_turn<R: Wait, L: Recorder + Drop, G: Gate>(
     context: &WorkerContext<'_, R, G>,
     w: &mut Worker<L>,
@@ -132,53 +134,130 @@ pub fn take_turn<R: Wait, L: Recorder + Drop, G: Gate>(
     ensures none { result ≡ false → known w.new.packets ≡ [] }
 {
     match take_from(&mut w.packets) {
-        Some(packet) => {
-            take_up(context, w, packet);
+        Some(batch) => {
+            take_batch(context, w, batch);
             true
         }
         None => false,
     }
 }
 
-// Makes of a packet what the lane can.
-fn take_up<R: Wait, L: Recorder + Drop, G: Gate>(
+// Makes of the packets of a batch what the lane can. A flat one goes back then.
+fn take_batch<R: Wait, L: Recorder + Drop, G: Gate>(
+    context: &WorkerContext<'_, R, G>,
+    w: &mut Worker<L>,
+    batch: Batch,
+)
+    requires ready { MayWork L.Recorder (commands_of context.now.script.now) w.old }
+    requires lawful { IsTrue (are_lawful (start (L.app w.old.lane).presets) (commands_of context.now.script.now)) }
+    ensures taken_up { TookUp L.Recorder (commands_of context.now.script.now) w.old w.new (packets_of batch) }
+    ensures ready { MayWork L.Recorder (commands_of context.now.script.now) w.new }
+{
+    match batch {
+        Batch::Single(packet) => take_single(context, w, packet),
+        Batch::Flat(batch) => {
+            take_flat(context, w, &batch);
+            give_back(&mut w.used, Batch::Flat(batch));
+        }
+    }
+}
+
+// Makes of a packet with a frame of its own what the lane can. The frame goes along with the answer, or back.
+fn take_single<R: Wait, L: Recorder + Drop, G: Gate>(
     context: &WorkerContext<'_, R, G>,
     w: &mut Worker<L>,
     packet: Packet,
 )
     requires ready { MayWork L.Recorder (commands_of context.now.script.now) w.old }
     requires lawful { IsTrue (are_lawful (start (L.app w.old.lane).presets) (commands_of context.now.script.now)) }
-    ensures taken_up { TookUp L.Recorder (commands_of context.now.script.now) w.old w.new packet }
+    ensures taken_up { TookUp L.Recorder (commands_of context.now.script.now) w.old w.new (packet ∷ []) }
+    ensures ready { MayWork L.Recorder (commands_of context.now.script.now) w.new }
+{
+    if let Some(verdict) = take_up(context, w, &packet.lend()) {
+        send_answer(context.rt, &mut w.answers, &mut w.used, packet, verdict);
+    }
+}
+
+// Makes of each packet of a flat batch what the lane can.
+fn take_flat<R: Wait, L: Recorder + Drop, G: Gate>(
+    context: &WorkerContext<'_, R, G>,
+    w: &mut Worker<L>,
+    batch: &FlatBatch,
+)
+    requires ready { MayWork L.Recorder (commands_of context.now.script.now) w.old }
+    requires lawful { IsTrue (are_lawful (start (L.app w.old.lane).presets) (commands_of context.now.script.now)) }
+    ensures taken_up { TookUp L.Recorder (commands_of context.now.script.now) w.old w.new batch.now }
+    ensures ready { MayWork L.Recorder (commands_of context.now.script.now) w.new }
+{
+    for n in 0..batch.len() {
+        take_lent(context, w, &batch.packet(n));
+    }
+}
+
+// Makes of a packet that is lent what the lane can.
+fn take_lent<R: Wait, L: Recorder + Drop, G: Gate>(
+    context: &WorkerContext<'_, R, G>,
+    w: &mut Worker<L>,
+    packet: &LentPacket<'_>,
+)
+    requires ready { MayWork L.Recorder (commands_of context.now.script.now) w.old }
+    requires lawful { IsTrue (are_lawful (start (L.app w.old.lane).presets) (commands_of context.now.script.now)) }
+    ensures taken_up { TookUp L.Recorder (commands_of context.now.script.now) w.old w.new (lent packet.now ∷ []) }
+    ensures ready { MayWork L.Recorder (commands_of context.now.script.now) w.new }
+{
+    if let Some(verdict) = take_up(context, w, packet) {
+        send_copy(context.rt, context.alloc, &mut w.answers, packet, verdict);
+    }
+}
+
+// Makes of a packet what the lane can. A verdict is that of the lane, and has to be sent.
+fn take_up<R: Wait, L: Recorder + Drop, G: Gate>(
+    context: &WorkerContext<'_, R, G>,
+    w: &mut Worker<L>,
+    packet: &LentPacket<'_>,
+) -> Option<Verdict>
+    requires ready { MayWork L.Recorder (commands_of context.now.script.now) w.old }
+    requires lawful { IsTrue (are_lawful (start (L.app w.old.lane).presets) (commands_of context.now.script.now)) }
+    ensures decided { IfSome result
+        (Decided L.Recorder (commands_of context.now.script.now) w.old w.new (lent packet.now)) }
+    ensures undecided { result ≡ None
+        → TookUp L.Recorder (commands_of context.now.script.now) w.old w.new (lent packet.now ∷ []) }
     ensures ready { MayWork L.Recorder (commands_of context.now.script.now) w.new }
 {
     if w.lane.has_failed() {
         take_from(&mut w.commands);
-        return;
+        return None;
     }
-    if !is_fit(&w.lane, context.script, &packet) {
-        return;
+    if !is_fit(&w.lane, context.script, packet) {
+        return None;
     }
-    decide_packet(context, w, packet);
+    decide_packet(context, w, packet)
 }
 
-// Has the lane decide a packet that fits, and sends the answer or gives the packet back.
+// Has the lane decide a packet that fits.
 fn decide_packet<R: Wait, L: Recorder + Drop, G: Gate>(
     context: &WorkerContext<'_, R, G>,
     w: &mut Worker<L>,
-    packet: Packet,
-)
+    packet: &LentPacket<'_>,
+) -> Option<Verdict>
     requires good { L.failed w.old.lane ≡ None }
     requires ready { IsReady L.Recorder (commands_of context.now.script.now) w.old.lane w.old.commands }
     requires lawful { IsTrue (are_lawful (start (L.app w.old.lane).presets) (commands_of context.now.script.now)) }
     requires fits { fits (length (commands_of context.now.script.now)) (L.last w.old.lane) (L.given w.old.lane)
-        packet ≡ true }
-    requires few { packet.ceil ≤ 4096 }
-    ensures taken_up { TookUp L.Recorder (commands_of context.now.script.now) w.old w.new packet }
+        (lent packet.now) ≡ true }
+    requires few { packet.now.ceil ≤ 4096 }
+    ensures decided { IfSome result
+        (Decided L.Recorder (commands_of context.now.script.now) w.old w.new (lent packet.now)) }
+    ensures undecided { result ≡ None
+        → TookUp L.Recorder (commands_of context.now.script.now) w.old w.new (lent packet.now ∷ []) }
     ensures ready { MayWork L.Recorder (commands_of context.now.script.now) w.new }
 {
     context.gate.pause(w.number, packet.index);
-    match hand_over(context, &mut w.lane, &mut w.commands, &packet) {
-        Ok(verdict) => send_answer(context.rt, &mut w.answers, &mut w.used, packet, verdict),
-        Err(_) => context.failed.store(true, Ordering::SeqCst),
+    match hand_over(context, &mut w.lane, &mut w.commands, packet) {
+        Ok(verdict) => Some(verdict),
+        Err(_) => {
+            context.failed.store(true, Ordering::SeqCst);
+            None
+        }
     }
 }

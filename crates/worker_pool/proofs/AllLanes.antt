@@ -11,7 +11,7 @@ use Rattle.lane_core.specs.Run.{LaneEvent}
 use Rattle.run_outcome.specs.Lanes.{lane_of}
 use Rattle.lane_composition.specs.Taken.{events_at}
 use Rattle.lane_worker.specs.declared.worker.Worker.{Worker}
-use Rattle.lane_rings.specs.declared.items.Packet.{Packet}
+use Rattle.lane_rings.specs.declared.items.Batch.{Batch}
 use Rattle.lane_rings.specs.declared.ring.RingTx.{RingTx}
 use Rattle.worker_pool.specs.Team.{IsTeam, AllKeep, HaveServed}
 use Rattle.worker_pool.specs.Ending.{by_key, CameTo}
@@ -31,7 +31,7 @@ listed {A} P (suc n) each =
     let rest = listed (λ k. P (suc k)) n (λ k lt. each (suc k) (omega arith)) in
     (first.0 ∷ rest.0, ap suc rest.1, at_each P first.0 rest.0 n first.1 rest.2)
 
-module _ {L : Type 0} (g : Ghosts L) (keep : Bool) (app : Meaning) (script : List Stamped) (frames : List Captured) (begins workers : List (Worker L)) (packets : List (RingTx Packet)) where
+module _ {L : Type 0} (g : Ghosts L) (keep : Bool) (app : Meaning) (script : List Stamped) (frames : List Captured) (begins workers : List (Worker L)) (packets : List (RingTx Batch)) where
   module _ (ordered : AreOrdered script) (few : length frames ≤ 1048576) (team : IsTeam g app begins packets) (all_keep : AllKeep g keep begins) (served : HaveServed g script begins frames workers)
       (below : (sight : Sight) → lane_of (by_key (length workers)) sight < length workers)
       (dealt_by_key : (frame : List ℕ) → lane_of (by_key (length workers)) (sight_of frame) ≡ lane_of_sight (sight_of frame) (length workers)) where

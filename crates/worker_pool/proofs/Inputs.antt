@@ -1,7 +1,8 @@
 -- Inputs, and what was sent to them.
-use Rattle.std.proofs.Common.{◌≡◌, ◌≢◌, ℕ, ◌+◌, ◌<◌, None, List, [], ◌∷◌, ◌++◌, length, get_or, set, sym, ap, subst, ◌∙◌, arith, ⊎_elim}
+use Rattle.std.proofs.Common.{◌≡◌, ◌≢◌, ℕ, ◌+◌, ◌<◌, None, List, [], ◌∷◌, ◌++◌, length, get_or, set, sym, ap, subst, ◌∙◌, append_assoc, arith, ⊎_elim}
 use Rattle.std.specs.Prelude.{◌==◌, if◌then◌else◌}
 use Rattle.std.proofs.lemmas.List.{append-nil, get_or-set_same, get_or-set_other, length-set}
+use Rattle.std.proofs.lemmas.List.Concat.{flat_map-append}
 use Rattle.std.proofs.lemmas.List.Elements.{filter-append}
 use Rattle.std.proofs.lemmas.Bool.{cases_eq, eq-eqb, ne_eqb}
 use Rattle.pcap_source.specs.Captured.{Captured}
@@ -10,7 +11,9 @@ use Rattle.control_script.specs.declared.stamped.Stamped.{Stamped}
 use Rattle.control_script.specs.Order.{commands_of}
 use Rattle.control_script.specs.Versions.{floor, ceil}
 use Rattle.lane_rings.specs.declared.items.Packet.{Packet}
+use Rattle.lane_rings.specs.declared.items.Batch.{Batch}
 use Rattle.lane_rings.specs.declared.ring.RingTx.{RingTx}
+use Rattle.lane_rings.specs.Batch.{packets_of, packets_in}
 use Rattle.lane_rings.specs.Ring.{sent, SameTx}
 use Rattle.lane_core.specs.declared.recorder.Recorder.{Ghosts}
 use Rattle.lane_worker.specs.declared.worker.Worker.{Worker}
@@ -20,7 +23,7 @@ use Rattle.lane_worker.specs.Worked.{IsReady, Worked}
 use Rattle.worker_pool.specs.Sent.{sent_as, packets_from, lane_of, dealt}
 use Rattle.worker_pool.specs.Inputs.{IsInput, AreInputs}
 use Rattle.lane_worker.proofs.Rings.{SameRx-refl}
-use Rattle.lane_worker.proofs.Beside.{ends_after}
+use Rattle.lane_worker.proofs.Beside.{ends_after, none_left}
 use Rattle.lane_worker.proofs.Composed.{worked_two}
 
 -- ---- the packets of one frame more
@@ -64,31 +67,65 @@ as_sent script n low high frame floor_is ceil_is =
 -- ---- one input
 
 module _ {L : Type 0} (g : Ghosts L) (script : List Command) (begin : Worker L) (packets : List Packet) where
-  -- more was sent
-  pub sent_on : (input : LaneInput L) (tx : RingTx Packet) (more : List Packet) → SameTx input.packets tx → sent tx ≡ sent input.packets ++ more → IsInput g script begin packets input
-      → IsInput g script begin (packets ++ more) (record input { packets = tx })
-  sent_on input tx more same gives p = record {
+  -- a batch was sent, where no packet was unsent
+  pub sent_on : (input : LaneInput L) (tx : RingTx Batch) (batch : Batch) → SameTx input.packets tx → sent tx ≡ sent input.packets ++ batch ∷ [] → input.unsent ≡ [] → IsInput g script begin packets input
+      → IsInput g script begin (packets ++ packets_of batch) (record input { packets = tx })
+  sent_on input tx batch same gives none p =
+      let before : packets_in (sent input.packets) ≡ packets = sym (append-nil (packets_in (sent input.packets))) ∙ ap (λ l. packets_in (sent input.packets) ++ l) (sym none) ∙ p.sent_are in
+      record {
+        lawful = p.lawful;
+        ends = ends_after input.packets tx begin.packets begin.packets p.ends same (SameRx-refl begin.packets);
+        sent_are = ap (λ l. packets_in (sent tx) ++ l) none ∙ append-nil (packets_in (sent tx)) ∙ ap packets_in gives ∙ flat_map-append packets_of (sent input.packets) (batch ∷ [])
+            ∙ ap (λ l. l ++ packets_in (batch ∷ [])) before ∙ ap (λ l. packets ++ l) (append-nil (packets_of batch));
+        placed = p.placed;
+      }
+
+  -- a packet joined those that are unsent
+  pub opened_on : (input : LaneInput L) (rest more : List Packet) → rest ≡ input.unsent ++ more → IsInput g script begin packets input → IsInput g script begin (packets ++ more) (record input { unsent = rest })
+  opened_on input rest more gives p = record {
     lawful = p.lawful;
-    ends = ends_after input.packets tx begin.packets begin.packets p.ends same (SameRx-refl begin.packets);
-    sent_are = gives ∙ ap (λ l. l ++ more) p.sent_are;
+    ends = p.ends;
+    sent_are = ap (λ l. packets_in (sent input.packets) ++ l) gives ∙ sym (append_assoc (packets_in (sent input.packets)) input.unsent more) ∙ ap (λ l. l ++ more) p.sent_are;
     placed = p.placed;
   }
 
+  -- those that are unsent were taken out
+  pub closed : (input : LaneInput L) (rest : List Packet) → rest ≡ [] → IsInput g script begin packets input → IsInput g script begin (packets_in (sent input.packets)) (record input { unsent = rest })
+  closed input rest none p = record {
+    lawful = p.lawful;
+    ends = p.ends;
+    sent_are = ap (λ l. packets_in (sent input.packets) ++ l) none ∙ append-nil (packets_in (sent input.packets));
+    placed = p.placed;
+  }
+
+  -- those that are unsent are the same
+  pub same_unsent : (input : LaneInput L) (rest : List Packet) → rest ≡ input.unsent → IsInput g script begin packets input → IsInput g script begin packets (record input { unsent = rest })
+  same_unsent input rest same p = record {
+    lawful = p.lawful;
+    ends = p.ends;
+    sent_are = ap (λ l. packets_in (sent input.packets) ++ l) same ∙ p.sent_are;
+    placed = p.placed;
+  }
+
+  -- none was unsent
+  pub none_unsent : (input : LaneInput L) (rest : List Packet) → rest ≡ [] → length input.unsent ≡ 0 → IsInput g script begin packets input → IsInput g script begin packets (record input { unsent = rest })
+  none_unsent input rest none count p = same_unsent input rest (none ∙ sym (none_left input.unsent count)) p
+
   -- nothing was sent
-  pub sent_none : (input : LaneInput L) (tx : RingTx Packet) → SameTx input.packets tx → sent tx ≡ sent input.packets → IsInput g script begin packets input
+  pub sent_none : (input : LaneInput L) (tx : RingTx Batch) → SameTx input.packets tx → sent tx ≡ sent input.packets → IsInput g script begin packets input
       → IsInput g script begin packets (record input { packets = tx })
   sent_none input tx same gives p = record {
     lawful = p.lawful;
     ends = ends_after input.packets tx begin.packets begin.packets p.ends same (SameRx-refl begin.packets);
-    sent_are = gives ∙ p.sent_are;
+    sent_are = ap (λ l. packets_in l ++ input.unsent) gives ∙ p.sent_are;
     placed = p.placed;
   }
 
   -- a worker that is in this thread worked on
-  pub inline_worked : (tx : RingTx Packet) (a b : Worker L) → IsInput g script begin packets (record { packets = tx; place = Inline a }) → Worked g script a b
+  pub inline_worked : (tx : RingTx Batch) (rest : List Packet) (a b : Worker L) → IsInput g script begin packets (record { packets = tx; unsent = rest; place = Inline a }) → Worked g script a b
       → (g.failed b.lane ≡ None → IsReady g script b.lane b.commands)
-      → IsInput g script begin packets (record { packets = tx; place = Inline b })
-  inline_worked tx a b p worked ready = record {
+      → IsInput g script begin packets (record { packets = tx; unsent = rest; place = Inline b })
+  inline_worked tx rest a b p worked ready = record {
     lawful = p.lawful;
     ends = p.ends;
     sent_are = p.sent_are;

@@ -5,7 +5,7 @@ use Rattle.std.proofs.lemmas.List.{length_push, get_or_append_left, get_or_push}
 use Rattle.std.proofs.lemmas.List.Elements.{All-push}
 use Rattle.std.proofs.lemmas.Bool.{cases_lt}
 use Rattle.app_api.specs.App.{Meaning}
-use Rattle.lane_rings.specs.declared.items.Packet.{Packet}
+use Rattle.lane_rings.specs.declared.items.Batch.{Batch}
 use Rattle.lane_rings.specs.declared.ring.RingTx.{RingTx}
 use Rattle.lane_rings.specs.Ring.{sent, AreEnds}
 use Rattle.lane_core.specs.declared.recorder.Recorder.{Ghosts}
@@ -26,7 +26,7 @@ module _ {L : Type 0} (g : Ghosts L) (app : Meaning) (keep : Bool) where
   }
 
   -- a team with one more worker, and the sending end of its packet ring
-  pub begun_more : (workers : List (Worker L)) (packets : List (RingTx Packet)) (w : Worker L) (tx : RingTx Packet) → AreBegun g app keep workers packets → IsNew g app w → g.keeps w.lane ≡ keep
+  pub begun_more : (workers : List (Worker L)) (packets : List (RingTx Batch)) (w : Worker L) (tx : RingTx Batch) → AreBegun g app keep workers packets → IsNew g app w → g.keeps w.lane ≡ keep
       → AreEnds tx w.packets → sent tx ≡ []
       → AreBegun g app keep (workers ++ w ∷ []) (packets ++ tx ∷ [])
   begun_more workers packets w tx begun new keeps ends none = record {
@@ -35,20 +35,20 @@ module _ {L : Type 0} (g : Ghosts L) (app : Meaning) (keep : Bool) where
     each_ends = λ k v t lt. ⊎_elim
         (λ below.
         let other : k < length packets = (let e = begun.count in omega arith) in
-        subst (λ (x : RingTx Packet). AreEnds x (get_or (workers ++ w ∷ []) k v).packets) (sym (get_or_append_left packets (tx ∷ []) t k other))
+        subst (λ (x : RingTx Batch). AreEnds x (get_or (workers ++ w ∷ []) k v).packets) (sym (get_or_append_left packets (tx ∷ []) t k other))
         (subst (λ (x : Worker L). AreEnds (get_or packets k t) x.packets) (sym (get_or_append_left workers (w ∷ []) v k below)) (begun.each_ends k v t below)))
         (λ past.
         let here : length workers ≡ k = (let e = length_push workers w in omega arith) in
         let there : length packets ≡ k = sym begun.count ∙ here in
-        subst (λ (x : RingTx Packet). AreEnds x (get_or (workers ++ w ∷ []) k v).packets) (sym (get_or_push packets tx t k there))
+        subst (λ (x : RingTx Batch). AreEnds x (get_or (workers ++ w ∷ []) k v).packets) (sym (get_or_push packets tx t k there))
         (subst (λ (x : Worker L). AreEnds tx x.packets) (sym (get_or_push workers w v k here)) ends))
         (cases_lt k (length workers));
     kept = All-push (λ (x : Worker L). g.keeps x.lane ≡ keep) workers w begun.kept keeps;
-    each_sent = λ k t lt. All-push (λ (x : RingTx Packet). sent x ≡ []) packets tx begun.each_sent none k t lt;
+    each_sent = λ k t lt. All-push (λ (x : RingTx Batch). sent x ≡ []) packets tx begun.each_sent none k t lt;
   }
 
   -- at least one of them is a team
-  pub team_begun : (workers : List (Worker L)) (packets : List (RingTx Packet)) → 1 ≤ length workers → AreBegun g app keep workers packets → IsTeam g app workers packets
+  pub team_begun : (workers : List (Worker L)) (packets : List (RingTx Batch)) → 1 ≤ length workers → AreBegun g app keep workers packets → IsTeam g app workers packets
   team_begun workers packets some begun = record {
     some = some;
     count = begun.count;

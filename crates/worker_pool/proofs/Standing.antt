@@ -22,6 +22,7 @@ use Rattle.lane_composition.specs.Taken.{verdicts_in}
 use Rattle.lane_composition.specs.Streamed.{answers_to}
 use Rattle.lane_worker.specs.declared.worker.Worker.{Worker}
 use Rattle.lane_worker.specs.Steps.{Step, steps_of, events_of, answers_of, AreWithin}
+use Rattle.lane_rings.specs.Batch.{packets_in}
 use Rattle.lane_worker.specs.Worked.{Ran, Sends, at_hand}
 use Rattle.worker_pool.specs.Sent.{packets_from, dealt}
 use Rattle.worker_pool.specs.Team.{IsNew, HasServed}
@@ -53,7 +54,7 @@ module _ {L : Type 0} (g : Ghosts L) (keep : Bool) (app : Meaning) (script : Lis
     its = dealt lanes l (packets_from script 0 frames)
 
     module _ (a b : Worker L) (new : IsNew g app a) (kept : g.keeps a.lane ≡ keep) (served : HasServed g (commands_of script) a its b) where
-      abbrev ran : Ran g (commands_of script) a b served.worked.packets served.worked.places
+      abbrev ran : Ran g (commands_of script) a b (packets_in served.worked.batches) served.worked.places
       ran = served.worked.ran new.failed
 
       abbrev steps : List Step
@@ -64,7 +65,7 @@ module _ {L : Type 0} (g : Ghosts L) (keep : Bool) (app : Meaning) (script : Lis
 
       -- its turns are those of its packets
       its_turns : map (λ t. t.packet) ran.turns ≡ its
-      its_turns = ran.of_packets ∙ ap (λ ps. ps ++ served.worked.packets) (sym new.packets) ∙ sym served.worked.took_packets.gone ∙ served.took
+      its_turns = ran.of_packets ∙ ap (λ l. packets_in (l ++ served.worked.batches)) (sym new.packets) ∙ ap packets_in (sym served.worked.took_packets.gone) ∙ served.took
 
       in_turn : AreInTurn (length script) None 0 (map (λ t. t.packet) ran.turns)
       in_turn = subst (AreInTurn (length script) None 0) (sym its_turns) (dealt_in_turn script ordered lanes l 0 0 None frames (omega arith) (λ m at. refl) (omega arith))

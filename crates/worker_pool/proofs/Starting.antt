@@ -9,7 +9,9 @@ use Rattle.forest_versions.specs.State.{start, control}
 use Rattle.control_script.specs.declared.stamped.Stamped.{Stamped}
 use Rattle.control_script.specs.Order.{commands_of}
 use Rattle.lane_rings.specs.declared.items.Packet.{Packet}
+use Rattle.lane_rings.specs.declared.items.Batch.{Batch}
 use Rattle.lane_rings.specs.declared.ring.RingTx.{RingTx}
+use Rattle.lane_rings.specs.Batch.{packets_in}
 use Rattle.lane_rings.specs.Ring.{sent, AreEnds}
 use Rattle.lane_core.specs.declared.recorder.Recorder.{Ghosts}
 use Rattle.lane_worker.specs.declared.worker.Worker.{Worker}
@@ -45,7 +47,7 @@ module _ {L : Type 0} (g : Ghosts L) where
   }
 
   -- and may begin
-  may_begin : (script : List Command) (app : Meaning) (w : Worker L) (tx : RingTx Packet) → are_lawful (start app.presets) script ≡ true
+  may_begin : (script : List Command) (app : Meaning) (w : Worker L) (tx : RingTx Batch) → are_lawful (start app.presets) script ≡ true
       → IsNew g app w → AreEnds tx w.packets → sent tx ≡ [] → MayBegin g script w tx
   may_begin script app w tx lawful new ends unsent = record {
     lawful = subst (λ (m : Meaning). are_lawful (start m.presets) script ≡ true) (sym new.app_is) lawful;
@@ -55,7 +57,7 @@ module _ {L : Type 0} (g : Ghosts L) where
   }
 
   -- so may all workers of a team
-  pub all_may_begin : (script : List Stamped) (workers : List (Worker L)) (packets : List (RingTx Packet)) → CanRun g script workers packets
+  pub all_may_begin : (script : List Stamped) (workers : List (Worker L)) (packets : List (RingTx Batch)) → CanRun g script workers packets
       → AllZip (MayBegin g (commands_of script)) workers packets
   all_may_begin script workers packets can =
       let t = can.team in
@@ -64,9 +66,9 @@ module _ {L : Type 0} (g : Ghosts L) where
       may_begin (commands_of script) can.app (get_or workers k w) (get_or packets k tx) can.lawful (t.each_new k w under) (t.each_ends k w tx under) (t.each_sent k tx below))
 
   -- a worker that may begin, at its input
-  pub fresh : (script : List Command) (w : Worker L) (tx : RingTx Packet) (place : WorkerPlace L) → MayBegin g script w tx → IsPlaced g script w place
-      → IsFresh g script w (record { packets = tx; place = place })
-  fresh script w tx place may placed = record { lawful = may.lawful; ends = may.ends; sent_are = may.unsent; placed = placed }
+  pub fresh : (script : List Command) (w : Worker L) (tx : RingTx Batch) (rest : List Packet) (place : WorkerPlace L) → rest ≡ [] → MayBegin g script w tx → IsPlaced g script w place
+      → IsFresh g script w (record { packets = tx; unsent = rest; place = place })
+  fresh script w tx rest place none may placed = record { lawful = may.lawful; ends = may.ends; sent_are = ap (λ l. packets_in l ++ rest) may.unsent ∙ none; placed = placed }
 
   -- nothing was sent to these inputs
   pub inputs_of_none : (script : List Stamped) (begins : List (Worker L)) (inputs : List (LaneInput L)) → AllZip (IsFresh g (commands_of script)) begins inputs

@@ -8,6 +8,7 @@ use Rattle.forest_versions.specs.State.{start}
 use Rattle.control_script.specs.declared.stamped.Stamped.{Stamped}
 use Rattle.control_script.specs.Order.{commands_of}
 use Rattle.lane_rings.specs.declared.items.Packet.{Packet}
+use Rattle.lane_rings.specs.declared.items.Batch.{Batch}
 use Rattle.lane_rings.specs.declared.ring.RingTx.{RingTx}
 use Rattle.lane_rings.specs.Ring.{sent, AreEnds}
 use Rattle.lane_core.specs.declared.recorder.Recorder.{Ghosts}
@@ -19,7 +20,7 @@ use Rattle.worker_pool.specs.Team.{IsTeam, HasServed, HaveServed}
 
 module _ {L : Type 0} where
   -- a worker that may begin under this script, and the other end of its packet ring, into which nothing was sent
-  pub record MayBegin (g : Ghosts L) (script : List Command) (worker : Worker L) (tx : RingTx Packet) : Type 0 where
+  pub record MayBegin (g : Ghosts L) (script : List Command) (worker : Worker L) (tx : RingTx Batch) : Type 0 where
     pub lawful : IsTrue (are_lawful (start (g.app worker.lane).presets) script)
     pub ready : g.failed worker.lane ≡ None → IsReady g script worker.lane worker.commands
     pub ends : AreEnds tx worker.packets
@@ -40,13 +41,13 @@ module _ {L : Type 0} where
     pub served : (begin : Worker L) (packets : List Packet) → IsInput g script begin packets input → HasServed g script begin packets worker
 
   -- a team that may run under this script
-  pub record CanRun (g : Ghosts L) (script : List Stamped) (workers : List (Worker L)) (packets : List (RingTx Packet)) : Type 0 where
+  pub record CanRun (g : Ghosts L) (script : List Stamped) (workers : List (Worker L)) (packets : List (RingTx Batch)) : Type 0 where
     pub app : Meaning
     pub team : IsTeam g app workers packets
     pub lawful : IsTrue (are_lawful (start app.presets) (commands_of script))
 
   -- a team may start: what its workers share and its feed are under the script
-  pub record MayStart (g : Ghosts L) (script : List Stamped) (commands : List Command) (dealt_under : List Stamped) (workers : List (Worker L)) (packets : List (RingTx Packet)) : Type 0 where
+  pub record MayStart (g : Ghosts L) (script : List Stamped) (commands : List Command) (dealt_under : List Stamped) (workers : List (Worker L)) (packets : List (RingTx Batch)) : Type 0 where
     pub context : commands ≡ commands_of script
     pub feed : dealt_under ≡ script
     pub team : CanRun g script workers packets

@@ -1,5 +1,5 @@
 -- Not of the headline. What lanes are fed by, and what was sent to them.
-use Rattle.std.specs.Prelude.{◌≡◌, ℕ, ◌<◌, ◌≤◌, List, [], length, get_or, Option, Some, IsTrue, Result, Ok, Err, ⊤}
+use Rattle.std.specs.Prelude.{◌≡◌, ℕ, ◌<◌, ◌≤◌, List, [], ◌++◌, length, get_or, Option, Some, IsTrue, Result, Ok, Err, ⊤}
 use Rattle.pcap_source.specs.Captured.{Captured}
 use Rattle.pcap_source.specs.Capture.{tail, too_long, too_many}
 use Rattle.pcap_source.specs.Reading.{CaptureState, frames_at}
@@ -11,6 +11,7 @@ use Rattle.forest_versions.specs.State.{start}
 use Rattle.control_script.specs.declared.stamped.Stamped.{Stamped}
 use Rattle.control_script.specs.Order.{commands_of}
 use Rattle.lane_rings.specs.declared.items.Packet.{Packet}
+use Rattle.lane_rings.specs.Batch.{packets_in}
 use Rattle.lane_rings.specs.Ring.{sent, AreEnds}
 use Rattle.lane_core.specs.declared.recorder.Recorder.{Ghosts}
 use Rattle.lane_core.specs.Sight.{arrivals}
@@ -29,11 +30,11 @@ module _ {L : Type 0} where
   IsPlaced g script begin (Thread handle) = (handle.promise.start.value ≡ begin) × (commands_of handle.promise.script.value ≡ script)
   IsPlaced g script begin (Inline worker) = WorkedOn g script begin worker
 
-  -- the input of a worker that began so, to which these packets were sent
+  -- the input of a worker that began so, to which these packets were given: they were sent, or are still unsent
   pub record IsInput (g : Ghosts L) (script : List Command) (begin : Worker L) (packets : List Packet) (input : LaneInput L) : Type 0 where
     pub lawful : IsTrue (are_lawful (start (g.app begin.lane).presets) script)
     pub ends : AreEnds input.packets begin.packets
-    pub sent_are : sent input.packets ≡ packets
+    pub sent_are : packets_in (sent input.packets) ++ input.unsent ≡ packets
     pub placed : IsPlaced g script begin input.place
 
   -- the inputs of workers that began so, to which the packets of these frames were sent, each to that of its lane

@@ -2,7 +2,7 @@
 use Rattle.std.specs.Prelude.{◌≡◌, ℕ, ◌<◌, Bool, List, [], length, get_or, None}
 use Rattle.app_api.specs.App.{Meaning}
 use Rattle.forest_versions.specs.State.{start}
-use Rattle.lane_rings.specs.declared.items.Packet.{Packet}
+use Rattle.lane_rings.specs.declared.items.Batch.{Batch}
 use Rattle.lane_rings.specs.declared.ring.RingTx.{RingTx}
 use Rattle.lane_rings.specs.Ring.{sent, AreEnds}
 use Rattle.lane_core.specs.declared.recorder.Recorder.{Ghosts}
@@ -21,9 +21,9 @@ module _ {L : Type 0} (g : Ghosts L) (app : Meaning) (keep : Bool) where
     pub failed : g.failed lane ≡ None
 
   -- new workers over such lanes, each with the other end of its packet ring, into which nothing was sent
-  pub record AreBegun (workers : List (Worker L)) (packets : List (RingTx Packet)) : Type 0 where
+  pub record AreBegun (workers : List (Worker L)) (packets : List (RingTx Batch)) : Type 0 where
     pub count : length workers ≡ length packets
     pub each_new : (k : ℕ) (w : Worker L) → k < length workers → IsNew g app (get_or workers k w)
-    pub each_ends : (k : ℕ) (w : Worker L) (tx : RingTx Packet) → k < length workers → AreEnds (get_or packets k tx) (get_or workers k w).packets
+    pub each_ends : (k : ℕ) (w : Worker L) (tx : RingTx Batch) → k < length workers → AreEnds (get_or packets k tx) (get_or workers k w).packets
     pub kept : AllKeep g keep workers
-    pub each_sent : (k : ℕ) (tx : RingTx Packet) → k < length packets → sent (get_or packets k tx) ≡ []
+    pub each_sent : (k : ℕ) (tx : RingTx Batch) → k < length packets → sent (get_or packets k tx) ≡ []

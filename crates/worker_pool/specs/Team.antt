@@ -8,7 +8,9 @@ use Rattle.forest_versions.specs.State.{start}
 use Rattle.control_script.specs.declared.stamped.Stamped.{Stamped}
 use Rattle.control_script.specs.Order.{commands_of}
 use Rattle.lane_rings.specs.declared.items.Packet.{Packet}
+use Rattle.lane_rings.specs.declared.items.Batch.{Batch}
 use Rattle.lane_rings.specs.declared.ring.RingTx.{RingTx}
+use Rattle.lane_rings.specs.Batch.{packets_in}
 use Rattle.lane_rings.specs.Ring.{sent, taken, AreEnds}
 use Rattle.lane_core.specs.declared.recorder.Recorder.{Ghosts}
 use Rattle.app_api.specs.App.{Meaning}
@@ -34,12 +36,12 @@ module _ {L : Type 0} where
     pub commands : taken worker.commands ≡ []
 
   -- new workers, each with the other end of its packet ring, into which nothing was sent
-  pub record IsTeam (g : Ghosts L) (app : Meaning) (workers : List (Worker L)) (packets : List (RingTx Packet)) : Type 0 where
+  pub record IsTeam (g : Ghosts L) (app : Meaning) (workers : List (Worker L)) (packets : List (RingTx Batch)) : Type 0 where
     pub some : 1 ≤ length workers
     pub count : length workers ≡ length packets
     pub each_new : (k : ℕ) (w : Worker L) → k < length workers → IsNew g app (get_or workers k w)
-    pub each_ends : (k : ℕ) (w : Worker L) (tx : RingTx Packet) → k < length workers → AreEnds (get_or packets k tx) (get_or workers k w).packets
-    pub each_sent : (k : ℕ) (tx : RingTx Packet) → k < length packets → sent (get_or packets k tx) ≡ []
+    pub each_ends : (k : ℕ) (w : Worker L) (tx : RingTx Batch) → k < length workers → AreEnds (get_or packets k tx) (get_or workers k w).packets
+    pub each_sent : (k : ℕ) (tx : RingTx Batch) → k < length packets → sent (get_or packets k tx) ≡ []
 
   -- workers whose lanes keep entries, or don't
   abbrev pub AllKeep : Ghosts L → Bool → List (Worker L) → Type 0
@@ -48,7 +50,7 @@ module _ {L : Type 0} where
   -- a worker took exactly these packets, and did what a worker does
   pub record HasServed (g : Ghosts L) (script : List Command) (begin : Worker L) (packets : List Packet) (worker : Worker L) : Type 0 where
     pub worked : Worked g script begin worker
-    pub took : taken worker.packets ≡ packets
+    pub took : packets_in (taken worker.packets) ≡ packets
 
   -- each worker served the packets of its lane among those of these frames
   pub record HaveServed (g : Ghosts L) (script : List Stamped) (begins : List (Worker L)) (frames : List Captured) (workers : List (Worker L)) : Type 0 where

@@ -20,7 +20,7 @@ use crate::team::lane_input::LaneInput;
 use crate::team::worker_place::{WorkerPlace, Works, start_work};
 use control_script::Script;
 use lane_core::Recorder;
-use lane_rings::{CommandTx, PacketTx};
+use lane_rings::{BatchTx, CommandTx, FlatBatch};
 use lane_worker::{Gate, Worker, WorkerContext, keep_at_hand};
 use native_filters::NativeBook;
 use std::alloc::{AllocError, Global};
@@ -45,7 +45,7 @@ mod worker_place;
 #[derive(Drop)]
 pub struct Team<L: Recorder + Drop> {
     pub workers: Vec<Worker<L>>,
-    pub packets: Vec<PacketTx>,
+    pub packets: Vec<BatchTx>,
     /// Each has room for all commands of the script.
     pub commands: Vec<CommandTx>,
 }
@@ -140,8 +140,9 @@ fn start_all<'s, E: 's, L: Recorder + Drop + Send + 's, D: WorkerRunner<L> + Syn
     context: &'s D,
     script: &Script,
     stops: &'s [AtomicBool],
+    alloc: Global,
     workers: Vec<Worker<L>>,
-    packets: Vec<PacketTx>,
+    packets: Vec<BatchTx>,
     room: Vec<LaneInput<L>>,
 ) -> Vec<LaneInput<L>>
     requires shared { IsSync D.row }
@@ -159,7 +160,11 @@ fn start_all<'s, E: 's, L: Recorder + Drop + Send + 's, D: WorkerRunner<L> + Syn
         let w = take_first(&mut workers);
         let packets = take_first(&mut packets);
         let place = take_on(scope, context, script, stop, w);
-        inputs.push_reserved(LaneInput { packets, place });
+        inputs.push_reserved(LaneInput {
+            packets,
+            unsent: FlatBatch::new(alloc),
+            place,
+        });
     }
     inputs
 }
@@ -236,7 +241,9 @@ fn run_threads<
             ensures same { result.2.ghost_name ≡ feed.entry.ghost_name }
         {
             let control = start_control(scope, move || publish(commands, count, gate));
-            let mut inputs = start_all(scope, runner, script, stops, workers, packets, inputs);
+            let mut inputs = start_all(
+                scope, runner, script, stops, alloc, workers, packets, inputs,
+            );
             let read = feed.send_packets(&mut inputs);
             raise_all(stops);
             join_control(rt, control);

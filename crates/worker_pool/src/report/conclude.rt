@@ -4,7 +4,7 @@ ghost use Rattle.std.specs.Prelude.{◌≡◌, ◌≤◌, ℕ, Bool, true, List,
 ghost use Rattle.app_api.specs.App.{Meaning};
 ghost use Rattle.pcap_source.specs.Captured.{Captured};
 ghost use Rattle.control_script.specs.declared.stamped.Stamped.{Stamped};
-ghost use Rattle.lane_rings.specs.declared.items.Packet.{Packet};
+ghost use Rattle.lane_rings.specs.declared.items.Batch.{Batch};
 ghost use Rattle.lane_rings.specs.declared.ring.RingTx.{RingTx};
 ghost use Rattle.lane_core.specs.KeptEnd.{shown_as};
 ghost use Rattle.lane_core.specs.Sight.{arrivals};
@@ -39,7 +39,7 @@ fn joined_of<R: Threads + Sync, L: Reporter + Drop + Send, G>(
     last: Option<Moment>,
 ) -> Result<Joined, PoolError>
     ensures joined { (keep : Bool) (app : Meaning) (frames : List Captured) (begins : List (Begun L))
-        (packets : List (RingTx Packet))
+        (packets : List (RingTx Batch))
         → length frames ≤ 1048576 → last ≡ greatest (arrivals 0 frames)
         → IsTeam L.Recorder app begins packets → AllKeep L.Recorder keep begins
         → HaveServed L.Recorder context.now.script.now begins frames workers.items
@@ -95,7 +95,7 @@ pub(crate) fn conclude<R: Threads + Sync, L: Reporter + Drop + Send, G>(
     context: &WorkerContext<'_, R, G>,
     ran: Ran<L>,
 ) -> Result<KeptLanes, PoolError>
-    ensures ends { (app : Meaning) (frames : List Captured) (begins : List (Begun L)) (packets : List (RingTx Packet))
+    ensures ends { (app : Meaning) (frames : List Captured) (begins : List (Begun L)) (packets : List (RingTx Batch))
         → length frames ≡ ran.whole.packets → length frames ≤ 1048576 → ran.whole.last ≡ greatest (arrivals 0 frames)
         → IsTeam L.Recorder app begins packets → AllKeep L.Recorder true begins
         → HaveServed L.Recorder context.now.script.now begins frames ran.workers.items

@@ -15,7 +15,7 @@ use crate::team::feed::Feed;
 use crate::team::lane_input::LaneInput;
 use crate::team::{Ran, Team, run_team};
 use lane_core::Recorder;
-use lane_rings::PacketRx;
+use lane_rings::BatchRx;
 use lane_worker::{Gate, WorkerContext};
 use mos_bytes::Source;
 use pcap_source::Capture;
@@ -28,8 +28,8 @@ pub(crate) struct ReportFeed<'a, R, S, G> {
     context: &'a WorkerContext<'a, R, G>,
     capture: &'a mut Capture,
     source: &'a mut S,
-    /// Through which each lane gives packets back.
-    used: &'a mut Vec<PacketRx>,
+    /// Through which each lane gives batches back.
+    used: &'a mut Vec<BatchRx>,
 }
 
 impl<'a, R: Wait, L: Recorder + Drop, S: Source, G: Gate> Feed<L> for ReportFeed<'a, R, S, G> {
@@ -55,7 +55,7 @@ impl<'a, R: Wait, L: Recorder + Drop, S: Source, G: Gate> Feed<L> for ReportFeed
     }
 }
 
-/// Runs a team over an opened capture, and reads that. Through `used` each lane gives back the packets that it is done
+/// Runs a team over an opened capture, and reads that. Through `used` each lane gives back the batches that it is done
 /// with.
 ///
 /// The capture is read to its end or its tail, also where a lane failed, or to where it is refused. An error is that
@@ -69,7 +69,7 @@ pub(crate) fn read_team<
 >(
     context: &WorkerContext<'_, R, G>,
     team: Team<L>,
-    used: Vec<PacketRx>,
+    used: Vec<BatchRx>,
     capture: &mut Capture,
     source: &mut S,
 ) -> Result<Ran<L>, PoolError>

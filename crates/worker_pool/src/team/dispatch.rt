@@ -8,15 +8,14 @@ ghost use Rattle.lane_worker.specs.declared.worker.Worker.{Worker as Begun};
 ghost use Rattle.worker_pool.specs.Inputs.{AreInputs, Dealt, ReadsAs};
 ghost use Rattle.worker_pool.specs.Source.{ReadsOn};
 
-use crate::team::lane_input::{LaneInput, send_to};
+use crate::team::lane_input::{LaneInput, deal_to, flush_all, send_to};
 use flow_timers::Moment;
 use lane_core::Recorder;
 use lane_join::greatest_with;
-use lane_rings::{Packet, PacketRx};
+use lane_rings::{BatchRx, Packet};
 use lane_worker::{Gate, WorkerContext};
 use mos_bytes::Source;
 use pcap_source::{Capture, Frame, NextError, Step};
-use std::alloc::Global;
 use std::sync::Wait;
 
 /// A capture that was read to its end.
@@ -68,25 +67,56 @@ pub fn send_frame<R: Wait, L: Recorder + Drop, G: Gate>(
     lane
 }
 
-// A frame to read into: that of a packet that a lane has given back, whose memory serves again, where there is one.
-fn next_frame(alloc: Global, used: &mut [PacketRx], lane: usize) -> Frame {
-    if lane < used.len() {
-        if let Some(packet) = used[lane].take() {
-            return packet.frame;
-        }
+/// Gives the next frame of a capture, of which so many were given, to the input of its lane, where it may wait for others.
+/// It waits where the ring of the lane is full, and works on a lane whose worker is in this thread. The frame holds nothing
+/// then that counts. Batches that come back through `used` serve again.
+fn deal_frame<R: Wait, L: Recorder + Drop, G: Gate>(
+    context: &WorkerContext<'_, R, G>,
+    inputs: &mut Vec<LaneInput<L>>,
+    used: &mut [BatchRx],
+    index: u64,
+    frame: &mut Frame,
+)
+    requires some { 1 ≤ length inputs.old.items }
+    requires inputs { (begins : List (Begun L)) × (frames : List Captured)
+        × AreInputs L.Recorder context.now.script.now begins frames inputs.old.items }
+    ensures count { length inputs.new.items ≡ length inputs.old.items }
+    ensures sent { (begins : List (Begun L)) (frames : List Captured) → length frames ≡ index
+        → AreInputs L.Recorder context.now.script.now begins frames inputs.old.items
+        → AreInputs L.Recorder context.now.script.now begins (frames ++ frame.old ∷ []) inputs.new.items }
+{
+    let lane = lane_of_frame(frame, inputs.len());
+    deal_to(context, &mut inputs[lane], used, lane, index, frame);
+}
+
+// Sends what is unsent for each lane where more may have to be read, so that nothing waits for what comes later.
+fn flush_before_read<R: Wait, L: Recorder + Drop, S: Source, G: Gate>(
+    context: &WorkerContext<'_, R, G>,
+    inputs: &mut Vec<LaneInput<L>>,
+    capture: &Capture,
+    source: &S,
+    used: &mut [BatchRx],
+)
+    requires inputs { (begins : List (Begun L)) × (frames : List Captured)
+        × AreInputs L.Recorder context.now.script.now begins frames inputs.old.items }
+    ensures { (begins : List (Begun L)) (frames : List Captured)
+        → AreInputs L.Recorder context.now.script.now begins frames inputs.old.items
+        → AreInputs L.Recorder context.now.script.now begins frames inputs.new.items }
+{
+    if !capture.is_at_hand(source) {
+        flush_all(context, inputs, used);
     }
-    Frame::new(alloc)
 }
 
 /// Reads an opened capture to its end or its tail, or to where it is refused, and sends each packet to the input of its
-/// lane. It waits where the ring of a lane is full, and works on a lane whose worker is in this thread. The frames of packets
-/// that come back through `used` serve again: for each packet that goes to a lane one is taken from it.
+/// lane. It waits where the ring of a lane is full, and works on a lane whose worker is in this thread. Packets go together,
+/// but none waits for others that are still to be read. Batches that come back through `used` serve again.
 pub(crate) fn dispatch<R: Wait, L: Recorder + Drop, S: Source, G: Gate>(
     context: &WorkerContext<'_, R, G>,
     inputs: &mut Vec<LaneInput<L>>,
     capture: &mut Capture,
     source: &mut S,
-    used: &mut Vec<PacketRx>,
+    used: &mut Vec<BatchRx>,
 ) -> Result<Whole, NextError>
     requires opened { Opened capture.old }
     requires some { 1 ≤ length inputs.old.items }
@@ -102,13 +132,13 @@ pub(crate) fn dispatch<R: Wait, L: Recorder + Drop, S: Source, G: Gate>(
 {
     let mut packets = 0;
     let mut last = None;
-    let mut lane = 0;
+    let mut frame = Frame::new(context.alloc);
     loop {
-        let mut frame = next_frame(context.alloc, used.as_mut_slice(), lane);
+        flush_before_read(context, inputs, capture, source, used.as_mut_slice());
         match capture.next(source, &mut frame)? {
             Step::Frame => {
                 last = greatest_with(last, &frame);
-                lane = send_frame(context, inputs, packets, frame);
+                deal_frame(context, inputs, used.as_mut_slice(), packets, &mut frame);
                 packets += 1;
             }
             Step::Tail(tail) => {

@@ -4,7 +4,7 @@ ghost use Rattle.std.specs.Prelude.{◌≡◌, ◌<◌, ◌≤◌, ◌⊎◌, �
 ghost use Rattle.app_api.specs.App.{Meaning};
 ghost use Rattle.pcap_source.specs.Captured.{Captured};
 ghost use Rattle.control_script.specs.Versions.{floor, ceil};
-ghost use Rattle.lane_rings.specs.declared.items.Packet.{Packet};
+ghost use Rattle.lane_rings.specs.declared.items.Batch.{Batch};
 ghost use Rattle.lane_rings.specs.declared.ring.RingTx.{RingTx};
 ghost use Rattle.lane_core.specs.Run.{LaneEvent};
 ghost use Rattle.lane_worker.specs.declared.worker.Worker.{Worker as Begun};
@@ -28,7 +28,7 @@ use std::thread::Threads;
 /// answered them. This function does nothing: who ends the lanes calls it for what it says.
 pub fn lanes_have_come<L: Recorder + Drop>(script: &Script, workers: &[Worker<L>])
     ensures came { (keep : Bool) (app : Meaning) (frames : List Captured) (begins : List (Begun L))
-        (packets : List (RingTx Packet))
+        (packets : List (RingTx Batch))
         → length frames ≤ 1048576 → IsTeam L.Recorder app begins packets → AllKeep L.Recorder keep begins
         → HaveServed L.Recorder script.now begins frames workers.now
         → (lanes : List (List LaneEvent)) × CameTo L.Recorder keep app script.now frames workers.now lanes

@@ -10,9 +10,10 @@ ghost use Rattle.lane_worker.specs.Worked.{WorkedOn};
 ghost use Rattle.worker_pool.specs.Inputs.{IsPlaced};
 ghost use Rattle.worker_pool.specs.AtWork.{IsAtWork, IsBack};
 
-use crate::team::lane_input::LaneInput;
+use crate::team::lane_input::{LaneInput, flush};
 use crate::team::worker_place::WorkerPlace;
 use lane_core::Recorder;
+use lane_rings::FlatBatch;
 use lane_worker::{Gate, Worker, WorkerContext, work_off};
 use std::collections::VecDeque;
 use std::sync::Wait;
@@ -29,7 +30,7 @@ fn worker_back<R: Threads + Wait, L: Recorder + Drop>(rt: &R, place: WorkerPlace
     }
 }
 
-// Waits for the worker of an input, and works off what is left in its packet ring.
+// Waits for the worker of an input, sends what is still unsent, and works off what is left in its packet ring.
 fn finish_one<R: Threads + Wait, L: Recorder + Drop, G: Gate>(
     context: &WorkerContext<'_, R, G>,
     input: LaneInput<L>,
@@ -37,7 +38,19 @@ fn finish_one<R: Threads + Wait, L: Recorder + Drop, G: Gate>(
     requires at_work { IsAtWork L.Recorder (commands_of context.now.script.now) input }
     ensures back { IsBack L.Recorder (commands_of context.now.script.now) input result }
 {
-    let LaneInput { packets, place } = input;
+    let LaneInput {
+        packets,
+        unsent,
+        place,
+    } = input;
+    let place = WorkerPlace::Inline(worker_back(context.rt, place));
+    let mut input = LaneInput {
+        packets,
+        unsent,
+        place,
+    };
+    flush(context, &mut input, FlatBatch::new(context.alloc));
+    let LaneInput { packets, place, .. } = input;
     let mut packets = packets;
     let worker = worker_back(context.rt, place);
     work_off(context, worker, &mut packets)

@@ -3,33 +3,47 @@
 ghost use Rattle.std.specs.Prelude.{◌≡◌, ◌++◌, [], ◌∷◌, List};
 ghost use Rattle.control_script.specs.Order.{commands_of};
 ghost use Rattle.lane_rings.specs.declared.items.Packet.{Packet as Sent};
+ghost use Rattle.lane_rings.specs.Batch.{packets_of};
 ghost use Rattle.lane_worker.specs.declared.worker.Worker.{Worker as Begun};
 ghost use Rattle.pcap_source.specs.Captured.{Captured};
 ghost use Rattle.worker_pool.specs.Inputs.{IsInput, AreInputs};
+ghost use Rattle.worker_pool.specs.Sent.{sent_as};
 
 use crate::team::worker_place::WorkerPlace;
 use lane_core::Recorder;
-use lane_rings::{Packet, PacketTx};
+use lane_rings::{Batch, BatchRx, BatchTx, FlatBatch, Packet};
 use lane_worker::{Backoff, Gate, WorkerContext, take_turn};
+use pcap_source::Frame;
+use std::alloc::Global;
+use std::mem::replace;
 use std::sync::Wait;
+
+/// How many packets a batch has at most: with so many it is sent.
+pub(crate) const PACKETS_IN_BATCH: usize = 64;
+
+/// With so many bytes a batch is sent, however few its packets are.
+const BYTES_IN_BATCH: usize = 65_536;
 
 /// What feeds a lane: the ring into which its packets are sent, and where the worker is that takes them out of it.
 #[derive(Drop)]
 pub struct LaneInput<L: Recorder + Drop> {
-    pub(crate) packets: PacketTx,
+    pub(crate) packets: BatchTx,
+    /// Packets that are still to be sent, behind all others.
+    pub(crate) unsent: FlatBatch,
     pub(crate) place: WorkerPlace<L>,
 }
 
-// Has a worker that is in this thread take one packet out of its ring. Whether it did.
+// Has a worker that is in this thread take one batch out of its ring. Whether it did.
 fn make_room<R: Wait, L: Recorder + Drop, G: Gate>(
     context: &WorkerContext<'_, R, G>,
     input: &mut LaneInput<L>,
 ) -> bool
     requires input { (begin : Begun L) × (packets : List Sent)
         × IsInput L.Recorder (commands_of context.now.script.now) begin packets input.old }
-    ensures { (begin : Begun L) (packets : List Sent)
+    ensures input { (begin : Begun L) (packets : List Sent)
         → IsInput L.Recorder (commands_of context.now.script.now) begin packets input.old
         → IsInput L.Recorder (commands_of context.now.script.now) begin packets input.new }
+    ensures unsent { input.new.unsent ≡ input.old.unsent }
 {
     match &mut input.place {
         WorkerPlace::Thread(_) => false,
@@ -37,7 +51,7 @@ fn make_room<R: Wait, L: Recorder + Drop, G: Gate>(
     }
 }
 
-/// Has each worker that is in this thread take one packet out of its ring. Whether one did.
+/// Has each worker that is in this thread take one batch out of its ring. Whether one did.
 pub fn take_turns<R: Wait, L: Recorder + Drop, G: Gate>(
     context: &WorkerContext<'_, R, G>,
     inputs: &mut Vec<LaneInput<L>>,
@@ -55,8 +69,56 @@ pub fn take_turns<R: Wait, L: Recorder + Drop, G: Gate>(
     took
 }
 
-/// Sends a packet to a lane. Where its ring has no room, a worker that is in this thread works, and one that is in
-/// its own is waited for.
+// Sends a batch to a lane for which no packet is unsent. Where its ring has no room, a worker that is in this thread works,
+// and one that is in its own is waited for.
+fn send_batch<R: Wait, L: Recorder + Drop, G: Gate>(
+    context: &WorkerContext<'_, R, G>,
+    input: &mut LaneInput<L>,
+    batch: Batch,
+)
+    requires input { (begin : Begun L) × (packets : List Sent)
+        × IsInput L.Recorder (commands_of context.now.script.now) begin packets input.old }
+    requires closed { input.old.unsent ≡ [] }
+    ensures input { (begin : Begun L) (packets : List Sent)
+        → IsInput L.Recorder (commands_of context.now.script.now) begin packets input.old
+        → IsInput L.Recorder (commands_of context.now.script.now) begin (packets ++ packets_of batch) input.new }
+    ensures closed { input.new.unsent ≡ [] }
+{
+    let mut batch = batch;
+    let mut backoff = Backoff::eager();
+    for _ in context.rt.forever() {
+        match input.packets.send(batch) {
+            Ok(()) => return,
+            Err(back) => batch = back,
+        }
+        let made = make_room(context, input);
+        backoff.looked(context.rt, made);
+    }
+    unreachable!()
+}
+
+/// Sends the packets that are unsent for a lane. Where its ring has no room, a worker that is in this thread works, and one
+/// that is in its own is waited for. `fresh` is a batch of no packets, into which the next ones go.
+pub(crate) fn flush<R: Wait, L: Recorder + Drop, G: Gate>(
+    context: &WorkerContext<'_, R, G>,
+    input: &mut LaneInput<L>,
+    fresh: FlatBatch,
+)
+    requires input { (begin : Begun L) × (packets : List Sent)
+        × IsInput L.Recorder (commands_of context.now.script.now) begin packets input.old }
+    requires fresh { fresh ≡ [] }
+    ensures input { (begin : Begun L) (packets : List Sent)
+        → IsInput L.Recorder (commands_of context.now.script.now) begin packets input.old
+        → IsInput L.Recorder (commands_of context.now.script.now) begin packets input.new }
+    ensures closed { input.new.unsent ≡ [] }
+{
+    let unsent = replace(&mut input.unsent, fresh);
+    if unsent.len() > 0 {
+        send_batch(context, input, Batch::Flat(unsent));
+    }
+}
+
+/// Sends a packet to a lane, behind what is unsent for it, as `flush` does.
 pub(crate) fn send_to<R: Wait, L: Recorder + Drop, G: Gate>(
     context: &WorkerContext<'_, R, G>,
     input: &mut LaneInput<L>,
@@ -68,15 +130,123 @@ pub(crate) fn send_to<R: Wait, L: Recorder + Drop, G: Gate>(
         → IsInput L.Recorder (commands_of context.now.script.now) begin packets input.old
         → IsInput L.Recorder (commands_of context.now.script.now) begin (packets ++ packet ∷ []) input.new }
 {
-    let mut packet = packet;
-    let mut backoff = Backoff::eager();
-    for _ in context.rt.forever() {
-        match input.packets.send(packet) {
-            Ok(()) => return,
-            Err(back) => packet = back,
+    flush(context, input, FlatBatch::new(context.alloc));
+    send_batch(context, input, Batch::Single(packet));
+}
+
+/// A batch of no packets: one that a lane has given back, whose memory serves again, where there is one.
+pub(crate) fn fresh_batch(alloc: Global, used: &mut [BatchRx], lane: usize) -> FlatBatch
+    ensures { result ≡ [] }
+{
+    if lane < used.len() {
+        if let Some(Batch::Flat(batch)) = used[lane].take() {
+            return emptied(batch);
         }
-        let made = make_room(context, input);
-        backoff.looked(context.rt, made);
     }
-    unreachable!()
+    FlatBatch::new(alloc)
+}
+
+fn emptied(batch: FlatBatch) -> FlatBatch
+    ensures { result ≡ [] }
+{
+    let mut batch = batch;
+    batch.clear();
+    batch
+}
+
+// Whether a batch is to be sent.
+fn is_full(batch: &FlatBatch) -> bool {
+    batch.len() >= PACKETS_IN_BATCH || batch.byte_count() >= BYTES_IN_BATCH
+}
+
+// Adds a frame's packet to what is unsent for a lane. Where memory for that is refused, the frame itself is sent.
+fn add_to<R: Wait, L: Recorder + Drop, G: Gate>(
+    context: &WorkerContext<'_, R, G>,
+    input: &mut LaneInput<L>,
+    index: u64,
+    floor: u32,
+    ceil: u32,
+    frame: &mut Frame,
+)
+    requires input { (begin : Begun L) × (packets : List Sent)
+        × IsInput L.Recorder (commands_of context.now.script.now) begin packets input.old }
+    ensures { (begin : Begun L) (packets : List Sent)
+        → IsInput L.Recorder (commands_of context.now.script.now) begin packets input.old
+        → IsInput L.Recorder (commands_of context.now.script.now) begin
+        (packets ++ record { index = index; floor = floor; ceil = ceil; frame = frame.old } ∷ []) input.new }
+{
+    match input.unsent.push(index, floor, ceil, frame) {
+        Ok(()) => {}
+        Err(_) => {
+            let frame = replace(frame, Frame::new(context.alloc));
+            let packet = Packet {
+                index,
+                floor,
+                ceil,
+                frame,
+            };
+            send_to(context, input, packet);
+        }
+    }
+}
+
+/// Gives a frame's packet to a lane: it joins what is unsent for the lane, and that is sent where it has become long.
+/// Batches that come back through `used` serve again.
+pub(crate) fn deal_to<R: Wait, L: Recorder + Drop, G: Gate>(
+    context: &WorkerContext<'_, R, G>,
+    input: &mut LaneInput<L>,
+    used: &mut [BatchRx],
+    lane: usize,
+    index: u64,
+    frame: &mut Frame,
+)
+    requires input { (begin : Begun L) × (packets : List Sent)
+        × IsInput L.Recorder (commands_of context.now.script.now) begin packets input.old }
+    ensures { (begin : Begun L) (packets : List Sent)
+        → IsInput L.Recorder (commands_of context.now.script.now) begin packets input.old
+        → IsInput L.Recorder (commands_of context.now.script.now) begin
+        (packets ++ sent_as context.now.script.now index frame.old ∷ []) input.new }
+{
+    let floor = context.script.floor(index);
+    let ceil = context.script.ceil(index);
+    add_to(context, input, index, floor, ceil, frame);
+    let is_due = is_full(&input.unsent);
+    flush_due(context, input, used, lane, is_due);
+}
+
+/// Sends what is unsent for each lane, as `flush` does.
+pub(crate) fn flush_all<R: Wait, L: Recorder + Drop, G: Gate>(
+    context: &WorkerContext<'_, R, G>,
+    inputs: &mut Vec<LaneInput<L>>,
+    used: &mut [BatchRx],
+)
+    requires inputs { (begins : List (Begun L)) × (frames : List Captured)
+        × AreInputs L.Recorder context.now.script.now begins frames inputs.old.items }
+    ensures { (begins : List (Begun L)) (frames : List Captured)
+        → AreInputs L.Recorder context.now.script.now begins frames inputs.old.items
+        → AreInputs L.Recorder context.now.script.now begins frames inputs.new.items }
+{
+    for lane in 0..inputs.len() {
+        let is_due = inputs[lane].unsent.len() > 0;
+        flush_due(context, &mut inputs[lane], used, lane, is_due);
+    }
+}
+
+// Sends what is unsent for a lane, where that is due.
+fn flush_due<R: Wait, L: Recorder + Drop, G: Gate>(
+    context: &WorkerContext<'_, R, G>,
+    input: &mut LaneInput<L>,
+    used: &mut [BatchRx],
+    lane: usize,
+    is_due: bool,
+)
+    requires input { (begin : Begun L) × (packets : List Sent)
+        × IsInput L.Recorder (commands_of context.now.script.now) begin packets input.old }
+    ensures { (begin : Begun L) (packets : List Sent)
+        → IsInput L.Recorder (commands_of context.now.script.now) begin packets input.old
+        → IsInput L.Recorder (commands_of context.now.script.now) begin packets input.new }
+{
+    if is_due {
+        flush(context, input, fresh_batch(context.alloc, used, lane));
+    }
 }

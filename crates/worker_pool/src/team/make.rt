@@ -8,30 +8,31 @@ ghost use Rattle.worker_pool.specs.Team.{IsTeam, AllKeep};
 
 use crate::job::Job;
 use crate::team::Team;
+use crate::team::lane_input::PACKETS_IN_BATCH;
 use app_api::App;
 use lane_core::{Lane, Recorder};
-use lane_rings::{AnswerTx, PacketRx, PacketTx, command_ring, packet_ring};
+use lane_rings::{AnswerTx, BatchRx, BatchTx, batch_ring, command_ring};
 use lane_worker::Worker;
 use shared_forest::{ForestStore, StoreUser};
 use std::alloc::{AllocError, Global};
 use std::sync::{Arc, Wait};
 
-/// How many packets may wait for a lane, where no more are to be on their way.
-const WAITING_PACKETS: usize = 256;
+/// How many batches may wait for a lane, where no more are to be on their way.
+const WAITING_BATCHES: usize = 256;
 
-/// How many packets may wait for all lanes of a run that is reported.
+/// How many packets may be on their way to all lanes of a run that is reported.
 const WAITING_IN_ALL: usize = 4096;
 
-// How many packets may wait for each of so many lanes of a run that is reported. The more, the seldomer the thread that reads
-// and a worker wait for each other.
+// How many batches may wait for each of so many lanes of a run that is reported, beside one that is still unsent and one
+// that is worked off. The more, the seldomer the thread that reads and a worker wait for each other.
 fn waiting_for_each(lanes: usize) -> usize
     requires some { 1 ≤ lanes }
     ensures some { 1 ≤ result }
 {
-    (WAITING_IN_ALL / lanes).max(WAITING_PACKETS)
+    (WAITING_IN_ALL / lanes / PACKETS_IN_BATCH).max(3) - 2
 }
 
-// Adds a worker of a lane to a team, as `enlist` does; so many packets may wait for it.
+// Adds a worker of a lane to a team, as `enlist` does; so many batches may wait for it.
 fn enlist_with<L: Recorder + Drop>(
     alloc: Global,
     team: &mut Team<L>,
@@ -39,7 +40,7 @@ fn enlist_with<L: Recorder + Drop>(
     waiting: usize,
     places: usize,
     answers: Option<AnswerTx>,
-    used: Option<PacketTx>,
+    used: Option<BatchTx>,
 ) -> Result<(), AllocError>
     requires waiting { 1 ≤ waiting }
     requires places { 1 ≤ places }
@@ -50,7 +51,7 @@ fn enlist_with<L: Recorder + Drop>(
         × (team.new.workers.items ≡ team.old.workers.items ++ w ∷ [])) }
     ensures count { OnOk result (length team.new.workers.items ≡ length team.old.workers.items + 1) }
 {
-    let (packets_tx, packets) = packet_ring(alloc, waiting)?;
+    let (packets_tx, packets) = batch_ring(alloc, waiting)?;
     let (commands_tx, commands) = command_ring(alloc, places)?;
     team.workers.push(Worker {
         number: team.workers.len(),
@@ -66,14 +67,14 @@ fn enlist_with<L: Recorder + Drop>(
 }
 
 /// Adds a worker of a lane to a team, with rings of its own; its command ring has so many places. `answers` is where it
-/// answers, `used` where it gives packets back. An error is want of memory; the team is then of no more use.
+/// answers, `used` where it gives batches back. An error is want of memory; the team is then of no more use.
 pub fn enlist<L: Recorder + Drop>(
     alloc: Global,
     team: &mut Team<L>,
     lane: L,
     places: usize,
     answers: Option<AnswerTx>,
-    used: Option<PacketTx>,
+    used: Option<BatchTx>,
 ) -> Result<(), AllocError>
     requires places { 1 ≤ places }
     ensures begun { OnOk result ((app : Meaning) (keep : Bool) → IsFresh L.Recorder app keep lane
@@ -83,15 +84,15 @@ pub fn enlist<L: Recorder + Drop>(
         × (team.new.workers.items ≡ team.old.workers.items ++ w ∷ [])) }
     ensures count { OnOk result (length team.new.workers.items ≡ length team.old.workers.items + 1) }
 {
-    enlist_with(alloc, team, lane, WAITING_PACKETS, places, answers, used)
+    enlist_with(alloc, team, lane, WAITING_BATCHES, places, answers, used)
 }
 
-// The same, with a ring through which the worker gives packets back; its other end goes into `used`. It has as many
-// places as packets may wait, so that all that were on their way come back.
+// The same, with a ring through which the worker gives batches back; its other end goes into `used`. It has as many
+// places as batches may be on their way, so that all come back.
 fn enlist_giving_back<L: Recorder + Drop>(
     alloc: Global,
     team: &mut Team<L>,
-    used: &mut Vec<PacketRx>,
+    used: &mut Vec<BatchRx>,
     lane: L,
     waiting: usize,
     places: usize,
@@ -103,13 +104,13 @@ fn enlist_giving_back<L: Recorder + Drop>(
         → AreBegun L.Recorder app keep team.new.workers.items team.new.packets.items) }
     ensures count { OnOk result (length team.new.workers.items ≡ length team.old.workers.items + 1) }
 {
-    let (used_tx, used_rx) = packet_ring(alloc, waiting)?;
+    let (used_tx, used_rx) = batch_ring(alloc, waiting.saturating_add(2))?;
     enlist_with(alloc, team, lane, waiting, places, None, Some(used_tx))?;
     used.push(used_rx)?;
     Ok(())
 }
 
-// A team of so many workers, of which nobody awaits answers, and the rings through which they give packets back. `make`
+// A team of so many workers, of which nobody awaits answers, and the rings through which they give batches back. `make`
 // makes their lanes.
 fn team_of<L: Recorder + Drop, F: Fn() -> Result<L, AllocError>>(
     alloc: Global,
@@ -117,7 +118,7 @@ fn team_of<L: Recorder + Drop, F: Fn() -> Result<L, AllocError>>(
     waiting: usize,
     places: usize,
     make: F,
-) -> Result<(Team<L>, Vec<PacketRx>), AllocError>
+) -> Result<(Team<L>, Vec<BatchRx>), AllocError>
     requires waiting { 1 ≤ waiting }
     requires places { 1 ≤ places }
     requires callable { F.IsAlwaysCallable make }
@@ -152,13 +153,13 @@ pub fn lane_over<R: Wait + Copy + Drop, A: App + Copy + Drop>(
     Lane::new(alloc, *app, user, keep)
 }
 
-/// Makes a worker for each lane of a run that is reported, and the ring of each through which packets come back. All
+/// Makes a worker for each lane of a run that is reported, and the ring of each through which batches come back. All
 /// look at one store of trees.
 pub(crate) fn make_team<R: Wait + Copy + Drop, A: App + Copy + Drop>(
     rt: &R,
     alloc: Global,
     job: &Job<'_, A>,
-) -> Result<(Team<Lane<A, StoreUser<R>>>, Vec<PacketRx>), AllocError>
+) -> Result<(Team<Lane<A, StoreUser<R>>>, Vec<BatchRx>), AllocError>
     requires some { 1 ≤ job.now.workers }
     ensures team { IfOk result (λ r. IsTeam ⟦<Lane<A, StoreUser<R>> as Recorder>⟧
         (A.meaning job.now.app) r.0.workers.items r.0.packets.items) }

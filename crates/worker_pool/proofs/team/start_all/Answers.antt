@@ -2,7 +2,7 @@ use Rattle.std.proofs.Common.{None, ◌≡◌, ◌∷◌, [], ◌++◌, length, 
 use Rattle.std.proofs.lemmas.List.{length-append}
 use Rattle.std.specs.List.{AllZip}
 use Rattle.lane_rings.specs.declared.ring.RingTx.{RingTx}
-use Rattle.lane_rings.specs.declared.items.Packet.{Packet}
+use Rattle.lane_rings.specs.declared.items.Batch.{Batch}
 use Rattle.control_script.specs.Order.{commands_of}
 use Rattle.forest_versions.specs.declared.command.Command.{Command}
 use Rattle.lane_worker.specs.Worked.{IsReady}
@@ -33,7 +33,7 @@ loop-stop-init g c = record {
   fresh = subst (λ (l : List (LaneInput g.row.L.Denot)). AllZip (IsFresh g.L.Recorder (commands_of c.args.script.now)) [] l) (sym c.requires.empty) tt;
   waiting =
       subst (λ (l : List (Worker g.row.L.Denot)). AllZip (MayBegin g.L.Recorder (commands_of c.args.script.now)) l c.from-packets.result.items) (sym c.from-workers.ensures.0)
-      (subst (λ (l : List (RingTx Packet)). AllZip (MayBegin g.L.Recorder (commands_of c.args.script.now)) c.args.workers.items l) (sym c.from-packets.ensures.0)
+      (subst (λ (l : List (RingTx Batch)). AllZip (MayBegin g.L.Recorder (commands_of c.args.script.now)) c.args.workers.items l) (sym c.from-packets.ensures.0)
       (all_may_begin g.L.Recorder c.args.script.now c.args.workers.items c.args.packets.items c.requires.team));
   flags = let e = ap length c.from-workers.ensures.0 in let f = c.requires.flags in omega (arith, e, f);
   room = let e = ap length c.from-workers.ensures.0 in let f = ap length c.requires.empty in let h = c.requires.places in omega (arith, e, f, h);
@@ -52,15 +52,15 @@ loop-stop-preserved g c =
       front = i.front ++ w ∷ [];
       whole = moved c.from-workers.result.items i.front c.loop-stop.workers.items c.take_first-w.new.row.items w i.whole c.take_first-w.ensures.first;
       fresh = subst (λ (l : List (LaneInput g.row.L.Denot)). AllZip (IsFresh g.L.Recorder (commands_of c.args.script.now)) (i.front ++ w ∷ []) l) (sym c.push_reserved.ensures.items)
-          (AllZip-more (IsFresh g.L.Recorder (commands_of c.args.script.now)) i.front c.loop-stop.inputs.items w (record { packets = tx; place = c.take_on-place.result }) i.fresh
-          (fresh g.L.Recorder (commands_of c.args.script.now) w tx c.take_on-place.result may placed));
+          (AllZip-more (IsFresh g.L.Recorder (commands_of c.args.script.now)) i.front c.loop-stop.inputs.items w (record { packets = tx; unsent = c.new.result; place = c.take_on-place.result }) i.fresh
+          (fresh g.L.Recorder (commands_of c.args.script.now) w tx c.new.result c.take_on-place.result c.new.ensures may placed));
       waiting = zip_others (MayBegin g.L.Recorder
           (commands_of c.args.script.now)) w tx c.take_first-w.new.row.items c.loop-stop.workers.items c.take_first-packets.new.row.items c.loop-stop.packets.items
           i.waiting c.take_first-w.ensures.first c.take_first-packets.ensures.first;
       flags = let e = ap length c.take_first-w.ensures.first in let f = i.flags in omega (arith, e, f);
       room =
           let e = ap length c.take_first-w.ensures.first in
-          let f = ap length c.push_reserved.ensures.items ∙ length-append c.loop-stop.inputs.items (record { packets = tx; place = c.take_on-place.result } ∷ []) in
+          let f = ap length c.push_reserved.ensures.items ∙ length-append c.loop-stop.inputs.items (record { packets = tx; unsent = c.new.result; place = c.take_on-place.result } ∷ []) in
           let h = c.push_reserved.ensures.capacity in
           let r = i.room in
           omega (arith, e, f, h, r);

@@ -34,7 +34,7 @@ returns-in_err-next-clause-dispatched g c = λ begins are.
     rw (p.1, p.2) (record {
       frames = read.0;
       few = let few = inv.few in let count = read.1 in omega (arith, few, count);
-      inputs_are = read.2 begins are;
+      inputs_are = c.flush_before_read.ensures begins read.0 (read.2 begins are);
       done = read_refused c.args.capture.now at.capture c.next.new.self read.0 c.next.new.frame (g.S.Source.left c.args.source.now) (g.S.Source.left at.source) (g.S.Source.left c.next.new.source)
           (g.S.Source.left c.next.new.source)
           c.in_err-next.field-0.0 c.in_err-next.ensures.gives read.3;
@@ -53,11 +53,26 @@ returns-in_err-next-clause-reads g c =
     (subst (λ e. NextGives at.capture new.self (g.S.Source.left at.source) (g.S.Source.left new.source) new.frame (Err e)) (is_fault fault) c.in_err-next.ensures.gives)
     (inv.read.3 bytes told))
 
-pub send_frame-lane-requires-clause-inputs : goal.send_frame-lane-requires-clause-inputs
-send_frame-lane-requires-clause-inputs g c =
+pub flush_before_read-requires : goal.flush_before_read-requires
+flush_before_read-requires g c =
     let given = c.requires.inputs in
     let read = c.loop-frame.invariant.read in
-    (given.0, read.0, read.2 given.0 given.1)
+    record { inputs = (given.0, read.0, read.2 given.0 given.1) }
+
+pub deal_frame-requires-clause-some : goal.deal_frame-requires-clause-some
+deal_frame-requires-clause-some g c =
+    let given = c.requires.inputs in
+    let read = c.loop-frame.invariant.read in
+    let old = read.2 given.0 given.1 in
+    let new = c.flush_before_read.ensures given.0 read.0 old in
+    let some = c.loop-frame.invariant.some in
+    omega (arith, some, old.count, new.count)
+
+pub deal_frame-requires-clause-inputs : goal.deal_frame-requires-clause-inputs
+deal_frame-requires-clause-inputs g c =
+    let given = c.requires.inputs in
+    let read = c.loop-frame.invariant.read in
+    (given.0, read.0, c.flush_before_read.ensures given.0 read.0 (read.2 given.0 given.1))
 
 pub loop-frame-preserved : goal.loop-frame-preserved
 loop-frame-preserved g c =
@@ -71,13 +86,19 @@ loop-frame-preserved g c =
       live = c.in_ok-next.ensures.live.1 (ap (λ s. Ok s) c.in-Frame.is);
       count = moved.count ∙ ap (λ n. n + 1) inv.count;
       few = let within = moved.within in let count = moved.count in let before = inv.count in omega (arith, within, count, before);
-      some = let count = c.send_frame-lane.ensures.count in let before = inv.some in omega (arith, count, before);
+      some =
+          let given = c.requires.inputs in
+          let old = read.2 given.0 given.1 in
+          let new = c.flush_before_read.ensures given.0 read.0 old in
+          let count = c.deal_frame.ensures.count in
+          let before = inv.some in
+          omega (arith, count, before, old.count, new.count);
       faults = let before = inv.faults in let later = c.next.ensures.cause.later in omega (arith, before, later);
       lasts = c.next.ensures.lasts ∙ inv.lasts;
       read = (
         read.0 ++ frame ∷ [],
         length-append read.0 (frame ∷ []) ∙ ap (λ n. n + 1) read.1,
-        λ begins are. c.send_frame-lane.ensures.sent begins read.0 read.1 (read.2 begins are),
+        λ begins are. c.deal_frame.ensures.sent begins read.0 read.1 (c.flush_before_read.ensures begins read.0 (read.2 begins are)),
         λ bytes told. read_more c.args.capture.now bytes read.0 at.capture c.next.new.self frame (g.S.Source.left at.source) (g.S.Source.left c.next.new.source) gives (read.3 bytes told),
         c.greatest_with-last.ensures.greatest read.0 read.4,
       );
@@ -92,7 +113,7 @@ returns-in-Tail-clause-dispatched g c = λ begins are.
     record {
       frames = read.0;
       few = let few = inv.few in let count = read.1 in omega (arith, few, count);
-      inputs_are = read.2 begins are;
+      inputs_are = c.flush_before_read.ensures begins read.0 (read.2 begins are);
       done = record {
         count = read.1;
         last = read.4;
@@ -119,7 +140,7 @@ returns-in-End-clause-dispatched g c = λ begins are.
     record {
       frames = read.0;
       few = let few = inv.few in let count = read.1 in omega (arith, few, count);
-      inputs_are = read.2 begins are;
+      inputs_are = c.flush_before_read.ensures begins read.0 (read.2 begins are);
       done = record {
         count = read.1;
         last = read.4;

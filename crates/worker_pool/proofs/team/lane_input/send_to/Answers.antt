@@ -1,33 +1,9 @@
-use Rattle.std.proofs.Common.{◌++◌, ◌∷◌, [], subst, ◌∙◌}
-use Rattle.control_script.specs.Order.{commands_of}
-use Rattle.lane_rings.specs.declared.items.Packet.{Packet}
-use Rattle.worker_pool.specs.Inputs.{IsInput}
-use Rattle.worker_pool.proofs.Inputs.{sent_on, sent_none}
 use Rattle.worker_pool.proofs.team.lane_input.send_to.Goals as goal
 
-pub returns-in-Ok : goal.returns-in-Ok
-returns-in-Ok g c = λ begin packets p.
-    let script = commands_of c.args.context.now.script.now in
-    subst (λ (q : Packet). IsInput g.L.Recorder script begin (packets ++ q ∷ []) (record { packets = c.send.new.self; place = c.loop.input.place })) c.loop.invariant.same
-    (sent_on g.L.Recorder script begin packets c.loop.input c.send.new.self (c.loop.packet ∷ []) c.in-Ok.ensures.ring c.in-Ok.ensures.ok (c.loop.invariant.input begin packets p))
+pub send_batch-requires-clause-input : goal.send_batch-requires-clause-input
+send_batch-requires-clause-input g c =
+    let given = c.requires.input in
+    (given.0, given.1, c.flush.ensures.input given.0 given.1 given.2)
 
-pub make_room-made-requires : goal.make_room-made-requires
-make_room-made-requires g c =
-    let script = commands_of c.args.context.now.script.now in
-    let input = c.requires.input in
-    record {
-      input = (
-        input.0,
-        input.1,
-        sent_none g.L.Recorder script input.0 input.1 c.loop.input c.send.new.self c.in-Err.ensures.ring c.in-Err.ensures.full.1 (c.loop.invariant.input input.0 input.1 input.2),
-      );
-    }
-
-pub loop-preserved : goal.loop-preserved
-loop-preserved g c =
-    let script = commands_of c.args.context.now.script.now in
-    record {
-      same = c.in-Err.ensures.full.0 ∙ c.loop.invariant.same;
-      input = λ begin packets p. c.make_room-made.ensures begin packets
-          (sent_none g.L.Recorder script begin packets c.loop.input c.send.new.self c.in-Err.ensures.ring c.in-Err.ensures.full.1 (c.loop.invariant.input begin packets p));
-    }
+pub returns : goal.returns
+returns g c = λ begin packets p. c.send_batch.ensures.input begin packets (c.flush.ensures.input begin packets p)

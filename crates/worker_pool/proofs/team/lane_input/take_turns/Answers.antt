@@ -17,4 +17,4 @@ loop-lane-preserved g c = λ begins frames are.
     let inputs = c.loop-lane.inputs.items in
     let lane = c.loop-lane.lane in
     let below : lane < length inputs = omega (arith, c.len-lane-end.ensures, c.args.inputs.now.ok.0, c.loop-lane-test.true, are.count, now.count) in
-    same_inputs g.L.Recorder c.args.context.now.script.now begins frames inputs lane c.index_mut.result.now c.make_room-took.new.input below c.index_mut.ensures.value c.make_room-took.ensures now
+    same_inputs g.L.Recorder c.args.context.now.script.now begins frames inputs lane c.index_mut.result.now c.make_room-took.new.input below c.index_mut.ensures.value c.make_room-took.ensures.input now

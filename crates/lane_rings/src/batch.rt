@@ -1,0 +1,172 @@
+//! Packets that go to a lane together.
+
+ghost use Rattle.std.specs.Prelude.{◌≡◌, ◌<◌, ◌++◌, [], ◌∷◌, length, slice_get, Some, IfOk, OnOk, OnErr};
+ghost use Rattle.std.specs.List.{All};
+ghost use Rattle.lane_rings.specs.Places.{IsWithin, packet_of, lent};
+
+use crate::items::Packet;
+use pcap_source::Frame;
+use std::alloc::{AllocError, Global};
+use std::marker::Model;
+
+// A packet of a batch but for its bytes, and where these are.
+#[derive(Clone, Copy)]
+struct Place {
+    index: u64,
+    floor: u32,
+    ceil: u32,
+    seconds: u32,
+    fraction: u32,
+    original: u32,
+    head: [u8; 16],
+    start: usize,
+    end: usize,
+}
+
+/// Packets whose bytes stand one behind the other, so that one move takes all of them to a lane. It keeps its memory when it
+/// is cleared. Contracts see the list of the packets.
+#[derive(Drop)]
+pub struct FlatBatch {
+    places: Vec<Place>,
+    bytes: Vec<u8>,
+    ghost within: { All (IsWithin (length bytes.items)) places.items },
+}
+
+impl Model for FlatBatch {
+    ghost use Rattle.std.specs.Prelude.{List, map};
+    ghost use Rattle.lane_rings.specs.declared.items.Packet.{Packet};
+    ghost use Rattle.lane_rings.specs.Places.{packet_of};
+
+    ghost Value = { List Packet };
+
+    ghost view = { λ b. map (packet_of b.bytes.items) b.places.items };
+}
+
+/// A packet whose bytes stand elsewhere. Its fields are those of a packet and of its frame.
+#[derive(Clone, Copy)]
+pub struct LentPacket<'a> {
+    pub index: u64,
+    pub floor: u32,
+    pub ceil: u32,
+    pub seconds: u32,
+    pub fraction: u32,
+    pub original: u32,
+    pub head: [u8; 16],
+    pub bytes: &'a [u8],
+}
+
+impl LentPacket<'_> {
+    /// A packet of its own that is the same.
+    pub fn to_packet(&self, alloc: Global) -> Result<Packet, AllocError>
+        ensures { IfOk result (λ packet. packet ≡ lent self.now) }
+    {
+        Ok(Packet {
+            index: self.index,
+            floor: self.floor,
+            ceil: self.ceil,
+            frame: Frame {
+                seconds: self.seconds,
+                fraction: self.fraction,
+                original: self.original,
+                head: self.head,
+                bytes: Vec::from_slice(alloc, self.bytes)?,
+            },
+        })
+    }
+}
+
+impl Packet {
+    /// The packet, lent.
+    pub fn lend(&self) -> LentPacket<'_>
+        ensures { lent result ≡ self.now }
+    {
+        LentPacket {
+            index: self.index,
+            floor: self.floor,
+            ceil: self.ceil,
+            seconds: self.frame.seconds,
+            fraction: self.frame.fraction,
+            original: self.frame.original,
+            head: self.frame.head,
+            bytes: &self.frame.bytes,
+        }
+    }
+}
+
+impl FlatBatch {
+    /// A batch of no packets. It takes no memory.
+    pub fn new(alloc: Global) -> FlatBatch
+        ensures { result ≡ [] }
+    {
+        FlatBatch {
+            places: Vec::new(alloc),
+            bytes: Vec::new(alloc),
+        }
+    }
+
+    /// Adds a packet behind the others. An error is want of memory; the batch is then as it was.
+    pub fn push(
+        &mut self,
+        index: u64,
+        floor: u32,
+        ceil: u32,
+        frame: &Frame,
+    ) -> Result<(), AllocError>
+        ensures ok { OnOk result (self.new ≡ self.old
+            ++ record { index = index; floor = floor; ceil = ceil; frame = frame.now } ∷ []) }
+        ensures unchanged { OnErr result (self.new ≡ self.old) }
+    {
+        let start = self.bytes.len();
+        self.bytes.extend_from_slice(&frame.bytes)?;
+        self.places.push(Place {
+            index,
+            floor,
+            ceil,
+            seconds: frame.seconds,
+            fraction: frame.fraction,
+            original: frame.original,
+            head: frame.head,
+            start,
+            end: self.bytes.len(),
+        })?;
+        Ok(())
+    }
+
+    /// How many packets it has.
+    pub fn len(&self) -> usize
+        ensures { result ≡ length self.now }
+    {
+        self.places.len()
+    }
+
+    /// How many bytes its packets have in all.
+    pub fn byte_count(&self) -> usize {
+        self.bytes.len()
+    }
+
+    /// The packet in this place.
+    pub fn packet(&self, n: usize) -> LentPacket<'_>
+        requires below { n < length self.now }
+        ensures { slice_get self.now n ≡ Some (lent result) }
+    {
+        let place = &self.places[n];
+        LentPacket {
+            index: place.index,
+            floor: place.floor,
+            ceil: place.ceil,
+            seconds: place.seconds,
+            fraction: place.fraction,
+            original: place.original,
+            head: place.head,
+            bytes: &self.bytes[place.start..place.end],
+        }
+    }
+
+    /// Takes all packets out of it.
+    pub fn clear(&mut self)
+        ensures { self.new ≡ [] }
+    {
+        self.places.clear();
+        self.bytes.clear();
+    }
+}
