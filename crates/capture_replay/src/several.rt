@@ -30,9 +30,10 @@ use pcap_source::Capture;
 use report_text::Totals;
 use std::alloc::Global;
 use std::sync::Wait;
+use std::sync::atomic::AtomicBool;
 use std::thread::Threads;
 use words::Settings;
-use worker_pool::{Gate, Job, run_lanes_kept};
+use worker_pool::{Gate, Job, WorkerContext, run_lanes_kept};
 
 // Writes what is written at the end. As many threads as there were workers share the making of a report's text.
 fn write_end_by<R: Threads + Wait, A: App + Sync, G, O: Sink>(
@@ -142,21 +143,16 @@ fn forward_on<
     what_one_worker_has_is_allowed();
     let mut capture = Capture::open(source)?;
     capture.write_header(out)?;
-    let job = Job {
-        app,
-        script: plan.script,
-        workers: plan.workers,
-    };
-    let versions = forward_lanes(
-        crew.rt,
+    let failed = AtomicBool::new(false);
+    let context = WorkerContext {
+        rt: crew.rt,
         alloc,
-        &job,
-        &mut capture,
-        source,
-        out,
-        plan.natives,
-        crew.gate,
-    )?;
+        script: plan.script,
+        natives: plan.natives,
+        gate: crew.gate,
+        failed: &failed,
+    };
+    let versions = forward_lanes(&context, &app, plan.workers, &mut capture, source, out)?;
     Ok(versions)
 }
 
