@@ -69,5 +69,10 @@ pub(crate) fn make_forward_team<R: Wait + Copy + Drop, A: App + Copy + Drop, G>(
     let (rt, alloc) = (context.rt, context.alloc);
     let places = (context.script.len() as usize).max(1);
     let store = Arc::new(alloc, ForestStore::new(alloc)?)?;
-    answering_team_of(alloc, workers, places, || lane_over(rt, alloc, app, &store, false))
+    answering_team_of(
+        alloc,
+        workers,
+        places,
+        || lane_over(rt, alloc, app, &store, false),
+    )
 }

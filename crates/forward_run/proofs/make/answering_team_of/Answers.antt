@@ -16,7 +16,7 @@ loop-preserved g c =
       callable = c.loop.invariant.callable;
       begun = λ app keep fresh.
           c.in_ok-enlist.ensures.begun app keep
-          (IfOk-at_ok (λ lane. IsFresh g.L.Recorder app keep lane) c.in_ok-lane.was (fresh c.make-lane.result c.make-lane.ensures))
+          (IfOk-at_ok (λ lane. IsFresh g.L.Recorder app keep lane) c.in_ok-lane.was (fresh c.make.result c.make.ensures))
           (c.loop.invariant.begun app keep fresh);
       all_answers = rw (added.2, items) (more_unused c.loop.team.workers.items c.loop.all_answers.items added.0 lane_answers c.loop.invariant.all_answers
           (record { ring = c.in_ok-answers_tx.answers_tx; answers = added.1; unsent = ring.sent.0; ends = ring.ends })

@@ -28,19 +28,18 @@ stream-read-requires g c =
 pub returns : goal.returns
 returns g c = record {
   dealt = λ begins inputs may.
-      let dealt = rw (c.swap-2.ensures.y_after)
-      (c.stream-read.ensures.streamed begins (g.O.Sink.taken c.args.self.now.out.now)
+      let dealt = c.stream-read.ensures.streamed begins (g.O.Sink.taken c.args.self.now.out.now)
       (record {
         count = sym may.packets;
         newest = may.last ∙ none_yet;
         inputs_are = rw (c.swap.ensures.x_after) inputs;
         all_answers_are = may.all_answers_are;
       })
-      may.none_left) in
+      may.none_left in
       record {
         frames = dealt.frames;
         few = dealt.few;
-        inputs_are = dealt.inputs_are;
+        inputs_are = rw (c.swap-2.ensures.y_after) dealt.inputs_are;
         done = (dealt.done, c.stream-read.ensures.outside, refl, refl, refl, refl);
       };
 }
