@@ -30,9 +30,10 @@ use pcap_source::Capture;
 use report_text::Totals;
 use std::alloc::Global;
 use std::sync::Wait;
+use std::sync::atomic::AtomicBool;
 use std::thread::Threads;
 use words::Settings;
-use worker_pool::{Gate, Job, run_lanes_kept};
+use worker_pool::{Gate, Job, WorkerContext, run_lanes_kept};
 
 impl<R: Threads + Wait + Sync + Send + Copy + Drop + 'static, G: Gate + Sync> Crew<'_, R, G> {
     // Writes what is written at the end. As many threads as there were workers share the making of a report's text.
@@ -83,25 +84,25 @@ impl<R: Threads + Wait + Sync + Send + Copy + Drop + 'static, G: Gate + Sync> Cr
         a_run_has_its_versions();
         what_one_worker_has_is_allowed();
         let mut capture = Capture::open(source)?;
+        if plan.output.is_forward() {
+            capture.write_header(out)?;
+            let failed = AtomicBool::new(false);
+            let context = WorkerContext {
+                rt: self.rt,
+                alloc: plan.alloc,
+                script: plan.script,
+                natives: plan.natives,
+                gate: self.gate,
+                failed: &failed,
+            };
+            let versions = forward_lanes(&context, &app, plan.workers, &mut capture, source, out)?;
+            return Ok(versions);
+        }
         let job = Job {
             app,
             script: plan.script,
             workers: plan.workers,
         };
-        if plan.output.is_forward() {
-            capture.write_header(out)?;
-            let versions = forward_lanes(
-                self.rt,
-                plan.alloc,
-                &job,
-                &mut capture,
-                source,
-                out,
-                plan.natives,
-                self.gate,
-            )?;
-            return Ok(versions);
-        }
         let end = run_lanes_kept(
             self.rt,
             plan.alloc,

@@ -6,7 +6,7 @@ use Rattle.std.proofs.KnownBytes.{Appends-trans}
 use Rattle.std.proofs.Math.Path.{fun_ext}
 use Rattle.std.proofs.lemmas.Bool.{cases_eq, eq-eqb, ne_eqb}
 use Rattle.std.proofs.Math.Seq.{map-set_same}
-use Rattle.std.proofs.lemmas.List.{length-map, get_or_default, get_or-map, map-set, get_or-set_same, get_or-set_other, length-set}
+use Rattle.std.proofs.lemmas.List.{length_push, length-map, get_or_default, get_or-map, map-set, get_or-set_same, get_or-set_other, length-set}
 use mathlib.Core.List.{IsPrefix}
 use Rattle.lane_rings.specs.declared.items.Answer.{Answer}
 use Rattle.lane_rings.specs.declared.ring.RingTx.{RingTx}
@@ -18,7 +18,7 @@ use Rattle.lane_composition.specs.Forward.{Leaving, Keeps, offered, left_first, 
 use Rattle.lane_worker.specs.declared.worker.Worker.{Worker}
 use Rattle.forward_dispatch.specs.declared.lane_answers.LaneAnswers.{LaneAnswers}
 use Rattle.forward_dispatch.specs.Streamed.{Leaves, taken_from}
-use Rattle.forward_dispatch.specs.Drained.{sent_in, held, Drains, Offers, sent_from, IsBeside, AreBeside, AreDrained, OfferAll}
+use Rattle.forward_dispatch.specs.Drained.{sent_in, held, Drains, KeepsTurn, Offers, sent_from, IsBeside, AreBeside, AreDrained, OfferAll}
 use Rattle.lane_worker.proofs.Fronts.{IsPrefix-trans}
 
 -- ---- the answer whose turn it is is written
@@ -33,6 +33,15 @@ written_on lane n taken_so_far before old new w v a law first moved bytes l = re
   written = subst (λ bs. Appends before new (l.state.out ++ bs)) (sym (ap (λ (u : Waiting). bytes_of_first (first_of u)) l.waits ∙ ap bytes_of_first first))
       (Appends-trans before old new l.state.out (bytes_out a) l.written bytes);
 }
+
+places_moved : (next : ℕ) (window : List (Option Answer)) → length (moved_on (record { next = next; window = window })).window ≡ length window
+places_moved next [] = refl
+places_moved next (None ∷ window) = refl
+places_moved next (Some a ∷ window) = let same = length_push window None in omega (arith, same)
+
+-- there are as many places
+pub same_places : (w v : Waiting) → v ≡ moved_on w → length v.window ≡ length w.window
+same_places w v moved = subst (λ (u : Waiting). length u.window ≡ length w.window) (sym moved) (places_moved w.next w.window)
 
 held-none : (window : List (Option Answer)) → held (window ++ None ∷ []) ≡ held window
 held-none [] = refl
@@ -50,6 +59,12 @@ held_falls w v a first moved = subst (λ (u : Waiting). held u.window < held w.w
 
 -- ---- an answer is taken and offered
 
+pub turn_kept : (w : Waiting) → KeepsTurn w w
+turn_kept w = record { next = refl; places = refl }
+
+pub turn_then : (w v u : Waiting) → KeepsTurn w v → KeepsTurn v u → KeepsTurn w u
+turn_then w v u p q = record { next = q.next ∙ p.next; places = q.places ∙ p.places }
+
 -- what the law on taking says
 abbrev pub IsTakingRight : Type 0
 IsTakingRight = (lane : ℕ → ℕ) (n l : ℕ) (a : Answer) (taken_so_far after : ℕ → List Answer) (s : Leaving) → Keeps lane n taken_so_far s
@@ -66,6 +81,7 @@ pub offers_none : (a b : LaneAnswers) (w : Waiting) → taken b.answers ≡ take
 offers_none a b w same = record {
   leaves = λ lane n k before after old new count here there others l.
       subst (λ (f : ℕ → List Answer). Leaves lane n f w old new) (sym (same_where k before after (there ∙ same ∙ sym here) others)) l;
+  turn = turn_kept w;
 }
 
 -- what was taken from lane k is this, and from others that
@@ -81,8 +97,8 @@ with_lane-other k answers before l not = ap (λ b. cond b answers (before l)) (n
 -- one more
 pub offers_one : (a m b : LaneAnswers) (w v u : Waiting) (x : Answer) → IsTakingRight → Offers a m w v → m.sent ≡ a.sent → length (taken m.answers) < m.sent
     → taken b.answers ≡ taken m.answers ++ x ∷ []
-    → ((s : Leaving) → s.waiting ≡ v → (offered x s).waiting ≡ u) → Offers a b w u
-offers_one a m b w v u x law offers same fewer took is = record {
+    → ((s : Leaving) → s.waiting ≡ v → (offered x s).waiting ≡ u) → KeepsTurn v u → Offers a b w u
+offers_one a m b w v u x law offers same fewer took is turn = record {
   leaves = λ lane n k before after old new count here there others l.
       let mid = with_lane k (taken m.answers) before in
       let mid_here : mid k ≡ taken m.answers = with_lane-here k (taken m.answers) before in
@@ -95,6 +111,7 @@ offers_one a m b w v u x law offers same fewer took is = record {
             (λ j not. others j not ∙ sym (with_lane-other k (taken m.answers) before j not));
         written = subst (Appends old new) (sym (out_where _ on.state _)) on.written;
       };
+  turn = turn_then w v u offers.turn turn;
 }
 
 -- the next of what is left is taken
@@ -130,7 +147,7 @@ module _ {L : Type 0} (workers : List (Worker L)) (all_answers : List LaneAnswer
     same_workers = λ j d le. refl;
     same_all_answers = λ j r le. refl;
     done = λ j r lt. absurd (omega (arith, lt));
-    offers = record { leaves = λ lane n old new counts l. l };
+    offers = record { leaves = λ lane n old new counts l. l; turn = turn_kept w };
   }
 
   pub all_drained : (now : List (Worker L)) (left : List LaneAnswers) (v : Waiting) → IsDraining (length all_answers) now left v → AreDrained workers all_answers left
@@ -192,6 +209,7 @@ module _ {L : Type 0} (workers : List (Worker L)) (all_answers : List LaneAnswer
               (λ j not. ap (λ l. get_or l j []) (map-set (λ (r : LaneAnswers). taken r.answers) left k lane_answers)
               ∙ get_or-set_other (map (λ (r : LaneAnswers). taken r.answers) left) k j (taken lane_answers.answers) [] not)
               (is.offers.leaves lane n old new counts l);
+          turn = turn_then w v u is.offers.turn offers.turn;
         };
       }
         where

@@ -16,14 +16,9 @@ use Rattle.forward_dispatch.specs.Drained.{Offers, OfferAll}
 use Rattle.forward_dispatch.specs.TakenAnswers.{IsCounted, AreCounted, HasTaken, HaveTaken, AreSentTo, with_sent, counted_on}
 use Rattle.lane_worker.proofs.Rings.{SameRx-refl, SameRx-trans, SameTx-refl}
 use Rattle.lane_worker.proofs.Beside.{ends_after}
+use Rattle.forward_dispatch.proofs.Draining.{turn_kept, turn_then}
 
 -- ---- of one lane
-
--- a look that finds nothing
-pub offers_same : (a m b : LaneAnswers) (w v : Waiting) → taken b.answers ≡ taken m.answers → Offers a m w v → Offers a b w v
-offers_same a m b w v same offers = record {
-  leaves = λ lane n k before after old new count here there others l. offers.leaves lane n k before after old new count here (there ∙ same) others l;
-}
 
 pub taken_none : (r : LaneAnswers) → IsCounted r → HasTaken r r
 taken_none r counted = record { same = refl; ring = SameRx-refl r.answers; counted = counted }
@@ -55,11 +50,12 @@ still_sent lane n a b p sent k r lt =
     (p.each k r below).same ∙ sent k r below
 
 pub offers_nothing : (a : List LaneAnswers) (w : Waiting) → OfferAll a a w w
-offers_nothing a w = record { leaves = λ lane n old new counts l. l }
+offers_nothing a w = record { leaves = λ lane n old new counts l. l; turn = turn_kept w }
 
 pub offers_then : (a b c : List LaneAnswers) (w v u : Waiting) → HaveTaken a b → OfferAll a b w v → OfferAll b c v u → OfferAll a c w u
 offers_then a b c w v u taken_on p q = record {
   leaves = λ lane n old new counts l. q.leaves lane n old new (still_sent lane n a b taken_on counts) (p.leaves lane n old new counts l);
+  turn = turn_then w v u p.turn q.turn;
 }
 
 taken_at : (all_answers : List LaneAnswers) (k : ℕ) (lane_answers : LaneAnswers) (l : ℕ)
@@ -94,6 +90,7 @@ module _ (all_answers : List LaneAnswers) (k : ℕ) (e lane_answers : LaneAnswer
         (taken_at all_answers k lane_answers k ∙ get_or-set_same (map (λ (r : LaneAnswers). taken r.answers) all_answers) k (taken lane_answers.answers) [] here_m)
         (λ j not. taken_at all_answers k lane_answers j ∙ get_or-set_other (map (λ (r : LaneAnswers). taken r.answers) all_answers) k j (taken lane_answers.answers) [] not)
         l;
+    turn = offers.turn;
   }
 
 -- ---- of the lanes of workers

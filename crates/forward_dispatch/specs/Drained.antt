@@ -35,11 +35,17 @@ pub record Drains (given : List Answer) (a b : LaneAnswers) : Type 0 where
   pub front : IsPrefix (taken b.answers) given
   pub all : (taken b.answers ≡ given) ⊎ (b.sent ≤ length (taken b.answers))
 
+-- the same turn, and as many places
+pub record KeepsTurn (w v : Waiting) : Type 0 where
+  pub next : v.next ≡ w.next
+  pub places : length v.window ≡ length w.window
+
 -- What was taken from a lane was offered: where it is lane k, and to whatever has left before.
 pub record Offers (a b : LaneAnswers) (w v : Waiting) : Type 0 where
   pub leaves : (lane : ℕ → ℕ) (n k : ℕ) (before after : ℕ → List Answer) (old new : Option (List ℕ)) → a.sent ≡ length (share lane k n)
       → before k ≡ taken a.answers → after k ≡ taken b.answers → ((l : ℕ) → l ≢ k → after l ≡ before l)
       → Leaves lane n before w old new → Leaves lane n after v old new
+  pub turn : KeepsTurn w v
 
 module _ {L : Type 0} where
   -- what the ring of each worker was sent; nothing where there is no such worker
@@ -64,3 +70,4 @@ module _ {L : Type 0} where
 pub record OfferAll (a b : List LaneAnswers) (w v : Waiting) : Type 0 where
   pub leaves : (lane : ℕ → ℕ) (n : ℕ) (old new : Option (List ℕ)) → ((k : ℕ) (r : LaneAnswers) → k < length a → (get_or a k r).sent ≡ length (share lane k n))
       → Leaves lane n (taken_from a) w old new → Leaves lane n (taken_from b) v old new
+  pub turn : KeepsTurn w v

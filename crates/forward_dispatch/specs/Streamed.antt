@@ -1,8 +1,12 @@
 -- Not of the headline. The dispatcher of a forward run, with what it has sent to the lanes, taken from them, and written.
-use Rattle.std.specs.Prelude.{◌≡◌, ◌≢◌, ℕ, ◌<◌, List, [], ◌++◌, length, map, get_or, Option, Some, Result, Ok, Err, ⊤}
+use Rattle.std.specs.Prelude.{◌≡◌, ◌≢◌, ℕ, ◌<◌, ◌≤◌, ◌⊎◌, List, [], ◌++◌, length, map, get_or, Option, Some, Result, Ok, Err, IsOk, IsErr, IsErrOf, IfErr, OnOk, IsTrue, ⊤}
 use Rattle.std.specs.List.{All}
 use Rattle.std.specs.Io.KnownBytes.{Appends}
 use mathlib.Core.List.{IsPrefix}
+use Rattle.mos_bytes.specs.declared.failed.Failed.{Failed}
+use Rattle.mos_bytes.specs.declared.source.Source.{Ghosts as Source}
+use Rattle.mos_bytes.specs.declared.sink.Sink.{Ghosts as Sink}
+use Rattle.mos_bytes.specs.Outside.{Writes}
 use Rattle.pcap_source.specs.Captured.{Captured}
 use Rattle.pcap_source.specs.Capture.{too_long, too_many}
 use Rattle.pcap_source.specs.Reading.{CaptureState, frames_at}
@@ -18,7 +22,9 @@ use Rattle.worker_pool.specs.declared.team.dispatch.Whole.{Whole}
 use Rattle.forward_dispatch.specs.declared.lane_answers.LaneAnswers.{LaneAnswers}
 use Rattle.worker_pool.specs.declared.job.PoolError.{PoolError}
 use Rattle.worker_pool.specs.declared.job.PoolError.TheVariants.{TooLong, TooMany, ReadFault, WriteFault, Heavy, NoMemory}
+use Rattle.worker_pool.specs.GoesOn.{GoesOn}
 use Rattle.worker_pool.specs.Inputs.{HasRead}
+use Rattle.worker_pool.specs.Source.{ReadsOn}
 
 -- the lane of each packet by its number, among so many lanes; lane 0 past the end
 abbrev pub lane_at : ℕ → List Captured → ℕ → ℕ
@@ -79,6 +85,14 @@ abbrev pub IsCutShort : Waiting → Option (List ℕ) → Option (List ℕ) → 
 IsCutShort old written written_after = (lane : ℕ → ℕ) (n : ℕ) (taken_so_far : ℕ → List Answer) (before : Option (List ℕ))
     → Leaves lane n taken_so_far old before written → HasLeft lane n taken_so_far before written_after
 
+-- Packets left in their turn: at `Ok` the records whose turn it was were written whole, else a front of the last of them.
+pub record LeavesInTurn {O T : Type 0} (sink : Sink O) (old new : Waiting) (out out_now : O) (result : Result T Failed) : Type 0 where
+  pub whole : OnOk result (LeavesOn old new (sink.taken out) (sink.taken out_now))
+  pub cut : IfErr result (λ _. IsCutShort old (sink.taken out) (sink.taken out_now))
+  pub places : length new.window ≡ length old.window
+  pub later : old.next ≤ new.next
+  pub writes : Writes sink out out_now (IsErr result)
+
 -- ---- the run
 
 -- why the dispatcher stopped, where it read a capture that gives these frames
@@ -90,6 +104,13 @@ StopsAs frames capture old new (Err ReadFault) = ⊤
 StopsAs frames capture old new (Err WriteFault) = ⊤
 StopsAs frames capture old new (Err Heavy) = ⊥
 StopsAs frames capture old new (Err NoMemory) = ⊤
+
+-- An opened capture was read on and what passes was written, with this result. The capture may be read on only where a write failed or
+-- memory was refused: then it goes on behind the records that were read.
+pub record ReadsAndWrites {S O T : Type 0} (source : Source S) (sink : Sink O) (capture capture_now : CaptureState) (old new : S) (before after : O) (result : Result T PoolError) : Type 0 where
+  pub reads : ReadsOn source capture old new (IsOk result) (IsErrOf result ReadFault)
+  pub writes : Writes sink before after (IsErrOf result WriteFault)
+  pub stopped : IsTrue capture_now.is_live → ((result ≡ Err WriteFault) ⊎ (result ≡ Err NoMemory)) × GoesOn capture capture_now (source.left old) (source.left new)
 
 module _ {L : Type 0} where
   -- The packets of these frames, the first of the capture, were sent, and some of the answers taken and written; these wait. At a

@@ -31,6 +31,13 @@ module _ {L : Type 0} where
       pub inputs_are : AreInputs g script begins frames d.inputs.items
       pub all_answers_are : AreLaneAnswers begins frames d.all_answers.items
 
+    -- the run has lanes, and sent the packets of some frames to workers that began somehow
+    pub record IsUnderWay (d : Dealing L) : Type 0 where
+      pub some : 1 ≤ length d.inputs.items
+      pub begins : List (Worker L)
+      pub frames : List Captured
+      pub sent : HasSent begins frames d
+
     -- the packets of these frames were sent behind those before, and what has left is right if it was before
     pub record WentOn (a b : Dealing L) (old new : Option (List ℕ)) (more : List Captured) : Type 0 where
       pub sent : (begins : List (Worker L)) (frames : List Captured) → HasSent begins frames a → HasSent begins (frames ++ more) b

@@ -2,19 +2,17 @@
 //! order of the capture.
 
 ghost use Rattle.std.specs.Prelude.{◌≡◌, ◌≢◌, ◌<◌, ◌≤◌, ◌+◌, ◌++◌, ◌⊎◌, [], ◌∷◌, List, Option, None, Some, ℕ, length, nat_lt, replicate, true, Ok, Err, IfOk, IfErr, OnOk, IsOk, IsErrOf, IsTrue};
-ghost use Rattle.mos_bytes.specs.Causes.{HasCauseOf};
-ghost use Rattle.mos_bytes.specs.Outside.{Writes};
+ghost use Rattle.mos_bytes.specs.Outside.{Reads, Writes};
 ghost use Rattle.pcap_source.specs.Captured.{Captured};
 ghost use Rattle.pcap_source.specs.Reading.{CaptureState, NextGives, Opened};
 ghost use Rattle.pcap_source.specs.declared.errors.NextError.TheVariants.{ReadFault as NextFault};
 ghost use Rattle.lane_worker.specs.declared.worker.Worker.{Worker as Begun};
-ghost use Rattle.worker_pool.specs.GoesOn.{GoesOn, IsReadTo};
+ghost use Rattle.worker_pool.specs.GoesOn.{IsReadTo};
 ghost use Rattle.worker_pool.specs.Inputs.{AreInputs, Dealt};
-ghost use Rattle.worker_pool.specs.Source.{ReadsOn};
 ghost use Rattle.forward_dispatch.specs.OnTheirWay.{HasPlaces, AreFew};
-ghost use Rattle.forward_dispatch.specs.Streamed.{AreLaneAnswers, Leaves, Streamed, lane_at, taken_from};
+ghost use Rattle.forward_dispatch.specs.Streamed.{ReadsAndWrites, Streamed};
 ghost use Rattle.forward_dispatch.specs.TakenAnswers.{HaveTaken, LeaveAll, CutAll};
-ghost use Rattle.forward_dispatch.specs.Turns.{HasSent, LeavesSo, WentOn, SendsOne, EndsSo};
+ghost use Rattle.forward_dispatch.specs.Turns.{HasSent, IsUnderWay, LeavesSo, WentOn, SendsOne, EndsSo};
 
 use crate::exit::{hand_on, write_ready};
 use crate::lane_answers::{LaneAnswers, count_sent, have_answered, take_all, take_answers};
@@ -27,7 +25,6 @@ use lane_worker::{Backoff, Gate, WorkerContext};
 use mos_bytes::{Sink, Source};
 use pcap_source::{Capture, Frame, Step};
 use std::alloc::{AllocError, Global};
-use std::mem;
 use std::sync::Wait;
 use std::sync::atomic::Ordering;
 use worker_pool::PoolError;
@@ -126,8 +123,7 @@ impl<L: Recorder + Drop> Dealing<L> {
         ensures cut { CutAll self.old.all_answers.items self.new.all_answers.items self.old.waiting (O.taken out.old)
             (O.taken out.new) }
         ensures only { IfErr result (λ e. (e ≡ PoolError.WriteFault) ⊎ (e ≡ PoolError.NoMemory)) }
-        ensures cause { HasCauseOf (O.faults out.old) (O.faults out.new) (IsErrOf result PoolError.WriteFault) }
-        ensures lasts { O.lasting out.new ≡ O.lasting out.old }
+        ensures writes { Writes O.Sink out.old out.new (IsErrOf result PoolError.WriteFault) }
     {
         let mut backoff = Backoff::eager();
         for _ in context.rt.forever() {
@@ -147,11 +143,9 @@ impl<L: Recorder + Drop> Dealing<L> {
 
     // Sends the next packet to its lane, and takes what that lane has answered so far, so that its frames come back soon.
     fn send_next<R: Wait, G: Gate>(&mut self, context: &WorkerContext<'_, R, G>, frame: Frame)
-        requires some { 1 ≤ length self.old.inputs.items }
         requires few { self.old.packets < 1048576 }
         requires place { nat_lt self.old.packets (self.old.waiting.next + length self.old.waiting.window) ≡ true }
-        requires begins { (begins : List (Begun L)) × (frames : List Captured)
-            × HasSent L.Recorder context.now.script.now begins frames self.old }
+        requires under_way { IsUnderWay L.Recorder context.now.script.now self.old }
         ensures went { (now : Option (List ℕ))
             → WentOn L.Recorder context.now.script.now self.old self.new now now (frame ∷ []) }
         ensures packets { self.new.packets ≡ self.old.packets + 1 }
@@ -195,11 +189,9 @@ impl<L: Recorder + Drop> Dealing<L> {
     ) -> Result<Option<Whole>, PoolError>
         requires live { IsTrue capture.old.is_live }
         requires count { capture.old.count ≡ self.old.packets }
-        requires some { 1 ≤ length self.old.inputs.items }
         requires places { HasPlaces self.old.waiting }
         requires on_their_way { AreFew capture.old.count self.old.waiting }
-        requires begins { (begins : List (Begun L)) × (frames : List Captured)
-            × HasSent L.Recorder context.now.script.now begins frames self.old }
+        requires under_way { IsUnderWay L.Recorder context.now.script.now self.old }
 
         // What was read and has not left is at most 4,096 packets, however the turn ends.
         ensures on_their_way { AreFew capture.new.count self.new.waiting }
@@ -217,9 +209,7 @@ impl<L: Recorder + Drop> Dealing<L> {
         ensures ended { IfOk result (λ told. told ≢ None → S.ended source.new) }
         ensures cut { result ≡ Err PoolError.ReadFault → (frame : Captured)
             × NextGives capture.old capture.new (S.left source.old) (S.left source.new) frame (Err NextFault) }
-        ensures read_cause { HasCauseOf (S.faults source.old) (S.faults source.new)
-            (IsErrOf result PoolError.ReadFault) }
-        ensures read_lasts { S.lasting source.new ≡ S.lasting source.old }
+        ensures reads { Reads S.Source source.old source.new (IsErrOf result PoolError.ReadFault) }
         ensures writes { Writes O.Sink out.old out.new (IsErrOf result PoolError.WriteFault) }
         ensures stopped { IsTrue capture.new.is_live → result ≢ Ok None
             → ((result ≡ Err PoolError.WriteFault) ⊎ (result ≡ Err PoolError.NoMemory))
@@ -237,8 +227,9 @@ impl<L: Recorder + Drop> Dealing<L> {
         }
     }
 
-    // Reads an opened capture to its end or its tail, or to where it is refused, a turn at a time.
-    fn read_all<R: Wait, S: Source, O: Sink, G: Gate>(
+    /// Reads an opened capture to its end or its tail, or to where it is refused, sends each packet to the input of its
+    /// lane, and writes what the lanes let pass, in the order of the capture.
+    pub fn stream<R: Wait, S: Source, O: Sink, G: Gate>(
         &mut self,
         context: &WorkerContext<'_, R, G>,
         capture: &mut Capture,
@@ -256,12 +247,8 @@ impl<L: Recorder + Drop> Dealing<L> {
             (λ frames. Streamed begins frames self.new.all_answers.items self.new.waiting
             capture.old (S.left source.old) (S.left source.new) before (O.taken out.new) result) }
         ensures on_their_way { AreFew capture.new.count self.new.waiting }
-        ensures reads { ReadsOn S.Source capture.old source.old source.new (IsOk result)
-            (IsErrOf result PoolError.ReadFault) }
-        ensures writes { Writes O.Sink out.old out.new (IsErrOf result PoolError.WriteFault) }
-        ensures stopped { IsTrue capture.new.is_live
-            → ((result ≡ Err PoolError.WriteFault) ⊎ (result ≡ Err PoolError.NoMemory))
-            × GoesOn capture.old capture.new (S.left source.old) (S.left source.new) }
+        ensures outside { ReadsAndWrites S.Source O.Sink capture.old capture.new source.old source.new
+            out.old out.new result }
     {
         loop {
             match self.turn(context, capture, source, out)? {
@@ -269,45 +256,5 @@ impl<L: Recorder + Drop> Dealing<L> {
                 None => {}
             }
         }
-    }
-
-    /// Reads an opened capture to its end or its tail, or to where it is refused, sends each packet to the input of its
-    /// lane, and writes what the lanes let pass, in the order of the capture. The inputs are lent to it for that long.
-    pub fn stream<R: Wait, S: Source, O: Sink, G: Gate>(
-        &mut self,
-        context: &WorkerContext<'_, R, G>,
-        inputs: &mut Vec<LaneInput<L>>,
-        capture: &mut Capture,
-        source: &mut S,
-        out: &mut O,
-    ) -> Result<Whole, PoolError>
-        requires opened { Opened capture.old }
-        requires some { 1 ≤ length inputs.old.items }
-        requires places { HasPlaces self.old.waiting }
-        requires packets { self.old.packets ≡ 0 }
-        requires last { self.old.last ≡ None }
-        requires begins { (begins : List (Begun L))
-            × AreInputs L.Recorder context.now.script.now begins [] inputs.old.items
-            × AreLaneAnswers begins [] self.old.all_answers.items }
-        ensures streamed { (begins : List (Begun L)) (before : Option (List ℕ))
-            → AreInputs L.Recorder context.now.script.now begins [] inputs.old.items
-            → AreLaneAnswers begins [] self.old.all_answers.items
-            → Leaves (lane_at (length self.old.all_answers.items) []) 0 (taken_from self.old.all_answers.items)
-            self.old.waiting before (O.taken out.old)
-            → Dealt L.Recorder context.now.script.now begins inputs.new.items
-            (λ frames. Streamed begins frames self.new.all_answers.items self.new.waiting
-            capture.old (S.left source.old) (S.left source.new) before (O.taken out.new) result) }
-        ensures on_their_way { AreFew capture.new.count self.new.waiting }
-        ensures reads { ReadsOn S.Source capture.old source.old source.new (IsOk result)
-            (IsErrOf result PoolError.ReadFault) }
-        ensures writes { Writes O.Sink out.old out.new (IsErrOf result PoolError.WriteFault) }
-        ensures stopped { IsTrue capture.new.is_live
-            → ((result ≡ Err PoolError.WriteFault) ⊎ (result ≡ Err PoolError.NoMemory))
-            × GoesOn capture.old capture.new (S.left source.old) (S.left source.new) }
-    {
-        mem::swap(&mut self.inputs, inputs);
-        let read = self.read_all(context, capture, source, out);
-        mem::swap(&mut self.inputs, inputs);
-        read
     }
 }

@@ -1,12 +1,12 @@
 //! Where packets leave: what was answered is written in the order of the capture.
 
-ghost use Rattle.std.specs.Prelude.{◌≡◌, ◌<◌, ◌≤◌, length, None, true, false, IfOk, IfErr, OnOk};
+ghost use Rattle.std.specs.Prelude.{◌≡◌, ◌<◌, None, true, false, IfOk, OnOk, IsErr};
 ghost use Rattle.std.specs.Io.KnownBytes.{Keeps};
-ghost use Rattle.mos_bytes.specs.Causes.{HasCause};
+ghost use Rattle.mos_bytes.specs.Outside.{Writes};
 ghost use Rattle.mos_bytes.specs.Writes.{WriteAdds};
 ghost use Rattle.lane_rings.specs.Waiting.{first_of};
 ghost use Rattle.lane_composition.specs.Forwarded.{bytes_out};
-ghost use Rattle.forward_dispatch.specs.Streamed.{IsCutShort, LeavesOn};
+ghost use Rattle.forward_dispatch.specs.Streamed.{LeavesInTurn};
 ghost use Rattle.forward_dispatch.specs.Drained.{held};
 
 use app_api::Verdict;
@@ -18,8 +18,7 @@ use pcap_source::{Capture, Frame};
 // Writes what a packet leaves.
 fn write_answer<O: Sink>(answer: &Answer, capture: &Capture, out: &mut O) -> Result<(), Failed>
     ensures bytes { WriteAdds (O.taken out.old) (O.taken out.new) result (bytes_out answer.now) }
-    ensures cause { HasCause (O.faults out.old) (O.faults out.new) result }
-    ensures lasts { O.lasting out.new ≡ O.lasting out.old }
+    ensures writes { Writes O.Sink out.old out.new (IsErr result) }
 {
     match answer.verdict {
         Verdict::Pass => capture.write_record(out, &answer.frame),
@@ -34,14 +33,9 @@ fn write_first<O: Sink>(
     out: &mut O,
     spare: &mut Vec<Frame>,
 ) -> Result<bool, Failed>
-    ensures leaves { OnOk result (LeavesOn waiting.old waiting.new (O.taken out.old) (O.taken out.new)) }
-    ensures places { length waiting.new.window ≡ length waiting.old.window }
-    ensures later { waiting.old.next ≤ waiting.new.next }
+    ensures leaves { LeavesInTurn O.Sink waiting.old waiting.new out.old out.new result }
     ensures fewer { IfOk result (λ more. more ≡ true → held waiting.new.window < held waiting.old.window) }
     ensures none { IfOk result (λ more. more ≡ false → first_of waiting.new ≡ None) }
-    ensures cut { IfErr result (λ _. IsCutShort waiting.old (O.taken out.old) (O.taken out.new)) }
-    ensures cause { HasCause (O.faults out.old) (O.faults out.new) result }
-    ensures lasts { O.lasting out.new ≡ O.lasting out.old }
 {
     writing_stays_right();
     let Some(answer) = waiting.next() else {
@@ -60,13 +54,8 @@ pub fn write_ready<O: Sink>(
     out: &mut O,
     spare: &mut Vec<Frame>,
 ) -> Result<(), Failed>
-    ensures leaves { OnOk result (LeavesOn waiting.old waiting.new (O.taken out.old) (O.taken out.new)) }
-    ensures places { length waiting.new.window ≡ length waiting.old.window }
-    ensures later { waiting.old.next ≤ waiting.new.next }
+    ensures leaves { LeavesInTurn O.Sink waiting.old waiting.new out.old out.new result }
     ensures none { OnOk result (first_of waiting.new ≡ None) }
-    ensures cut { IfErr result (λ _. IsCutShort waiting.old (O.taken out.old) (O.taken out.new)) }
-    ensures cause { HasCause (O.faults out.old) (O.faults out.new) result }
-    ensures lasts { O.lasting out.new ≡ O.lasting out.old }
 {
     while write_first(waiting, capture, out, spare)? {}
     Ok(())
@@ -80,8 +69,7 @@ pub(crate) fn hand_on<S: Source, O: Sink>(
     out: &mut O,
 ) -> Result<(), Failed>
     ensures bytes { Keeps (O.taken out.old) (O.taken out.new) }
-    ensures cause { HasCause (O.faults out.old) (O.faults out.new) result }
-    ensures lasts { O.lasting out.new ≡ O.lasting out.old }
+    ensures writes { Writes O.Sink out.old out.new (IsErr result) }
 {
     if capture.is_at_hand(source) {
         return Ok(());

@@ -3,7 +3,7 @@
 ghost use Rattle.std.specs.Prelude.{◌≡◌, ◌<◌, length, get_or};
 ghost use Rattle.lane_composition.specs.Forward.{Leaving, offered};
 ghost use Rattle.forward_dispatch.specs.declared.lane_answers.LaneAnswers.{LaneAnswers as Answered};
-ghost use Rattle.forward_dispatch.specs.Drained.{Offers, OfferAll};
+ghost use Rattle.forward_dispatch.specs.Drained.{KeepsTurn, Offers, OfferAll};
 ghost use Rattle.forward_dispatch.specs.TakenAnswers.{IsCounted, AreCounted, HasTaken, HaveTaken, counted_on};
 
 use lane_composition::forward::taking_stays_right;
@@ -23,8 +23,7 @@ pub struct LaneAnswers {
 /// Offers an answer. One that comes back is let go: where all answers are right there is none.
 pub(crate) fn offer(waiting: &mut Resequencer, answer: Answer)
     ensures offered { (s : Leaving) → s.waiting ≡ waiting.old → (offered answer s).waiting ≡ waiting.new }
-    ensures next { waiting.new.next ≡ waiting.old.next }
-    ensures places { length waiting.new.window ≡ length waiting.old.window }
+    ensures turn { KeepsTurn waiting.old waiting.new }
 {
     let _ = waiting.offer(answer);
 }
@@ -35,8 +34,6 @@ fn take_shown(lane_answers: &mut LaneAnswers, waiting: &mut Resequencer) -> bool
     requires counted { IsCounted lane_answers.old }
     ensures takes { HasTaken lane_answers.old lane_answers.new }
     ensures offers { Offers lane_answers.old lane_answers.new waiting.old waiting.new }
-    ensures next { waiting.new.next ≡ waiting.old.next }
-    ensures places { length waiting.new.window ≡ length waiting.old.window }
 {
     taking_stays_right();
     let before = lane_answers.taken;
@@ -60,8 +57,6 @@ pub(crate) fn take_answers(
     requires counted { AreCounted all_answers.old.items }
     ensures takes { HaveTaken all_answers.old.items all_answers.new.items }
     ensures offers { OfferAll all_answers.old.items all_answers.new.items waiting.old waiting.new }
-    ensures next { waiting.new.next ≡ waiting.old.next }
-    ensures places { length waiting.new.window ≡ length waiting.old.window }
 {
     take_shown(&mut all_answers[lane], waiting)
 }
@@ -71,8 +66,6 @@ pub(crate) fn take_all(all_answers: &mut Vec<LaneAnswers>, waiting: &mut Reseque
     requires counted { AreCounted all_answers.old.items }
     ensures takes { HaveTaken all_answers.old.items all_answers.new.items }
     ensures offers { OfferAll all_answers.old.items all_answers.new.items waiting.old waiting.new }
-    ensures next { waiting.new.next ≡ waiting.old.next }
-    ensures places { length waiting.new.window ≡ length waiting.old.window }
 {
     let mut took = false;
     for lane in 0..all_answers.len() {

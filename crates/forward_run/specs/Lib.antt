@@ -1,2 +1,3 @@
 pub mod Forward
 pub mod Explained
+pub mod Streaming

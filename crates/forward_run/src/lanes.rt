@@ -1,6 +1,6 @@
 //! A forward run on several lanes.
 
-ghost use Rattle.std.specs.Prelude.{◌≡◌, ◌≢◌, ◌≤◌, ◌⊎◌, [], ℕ, List, Option, None, Some, Err, length, IsOk, IsTrue, IsErrOf, IfOk, IfErr};
+ghost use Rattle.std.specs.Prelude.{◌≡◌, ◌≢◌, ◌≤◌, ◌⊎◌, ℕ, List, Option, Some, Err, IsOk, IsTrue, IsErrOf, IfOk, IfErr};
 ghost use Rattle.mos_bytes.specs.Outside.{Writes};
 ghost use Rattle.pcap_source.specs.Captured.{Captured};
 ghost use Rattle.pcap_source.specs.Reading.{Opened, frames_at};
@@ -11,9 +11,9 @@ ghost use Rattle.control_script.specs.Order.{commands_of};
 ghost use Rattle.worker_pool.specs.GoesOn.{GoesOn};
 ghost use Rattle.worker_pool.specs.AtWork.{CanRun, Served};
 ghost use Rattle.worker_pool.specs.Source.{IsReadWhole, ReadsOn};
-ghost use Rattle.forward_dispatch.specs.OnTheirWay.{HasPlaces};
-ghost use Rattle.forward_dispatch.specs.Streamed.{AreLaneAnswers, Leaves, Streamed, lane_at, taken_from};
+ghost use Rattle.forward_dispatch.specs.Streamed.{ReadsAndWrites, Streamed};
 ghost use Rattle.forward_run.specs.Forward.{ForwardsFront, ForwardsOver};
+ghost use Rattle.forward_run.specs.Streaming.{MayStream};
 
 use crate::feed::ForwardFeed;
 use crate::leave::leave;
@@ -28,15 +28,13 @@ use lane_composition::versions::a_script_gives_floors_and_ceilings;
 use lane_core::Recorder;
 use lane_worker::{Gate, Worker, WorkerContext};
 use mos_bytes::{Sink, Source};
-use native_filters::NativeBook;
 use pcap_source::Capture;
-use std::alloc::{AllocError, Global};
+use std::alloc::AllocError;
 use std::sync::Wait;
-use std::sync::atomic::AtomicBool;
 use std::thread::Threads;
 use worker_pool::team::dispatch::Whole;
 use worker_pool::team::{Team, run_team};
-use worker_pool::{Job, PoolError, VersionList};
+use worker_pool::{PoolError, VersionList};
 
 // A run that has written nothing has written a front of what it may write. This function does nothing: who ends a run
 // before it has begun calls it for what it says.
@@ -67,23 +65,13 @@ fn stream_lent<
     source: &'a mut S,
     out: &'a mut O,
 ) -> Result<(Result<Whole, PoolError>, Vec<Worker<L>>), AllocError>
-    requires opened { Opened capture.old }
     requires team { CanRun L.Recorder context.now.script.now team.workers.items team.packets.items }
-    requires all_answers { AreLaneAnswers team.workers.items [] dealing.old.all_answers.items }
-    requires begins { Leaves (lane_at (length dealing.old.all_answers.items) []) 0
-        (taken_from dealing.old.all_answers.items) dealing.old.waiting (O.taken out.old) (O.taken out.old) }
-    requires places { HasPlaces dealing.old.waiting }
-    requires packets { dealing.old.packets ≡ 0 }
-    requires last { dealing.old.last ≡ None }
+    requires may { MayStream team.workers.items capture.old dealing.old (O.taken out.old) }
     ensures served { IfOk result (λ r. Served L.Recorder context.now.script.now team.workers.items r.1.items
         (λ frames. Streamed team.workers.items frames dealing.new.all_answers.items dealing.new.waiting
         capture.old (S.left source.old) (S.left source.new) (O.taken out.old) (O.taken out.new) r.0)) }
-    ensures reads { IfOk result (λ r. ReadsOn S.Source capture.old source.old source.new (IsOk r.0)
-        (IsErrOf r.0 PoolError.ReadFault)) }
-    ensures writes { IfOk result (λ r. Writes O.Sink out.old out.new (IsErrOf r.0 PoolError.WriteFault)) }
-    ensures stopped { IfOk result (λ r. IsTrue capture.new.is_live
-        → ((r.0 ≡ Err PoolError.WriteFault) ⊎ (r.0 ≡ Err PoolError.NoMemory))
-        × GoesOn capture.old capture.new (S.left source.old) (S.left source.new)) }
+    ensures outside { IfOk result (λ r. ReadsAndWrites S.Source O.Sink capture.old capture.new source.old source.new
+        out.old out.new r.0) }
     ensures unchanged { IfErr result (λ _. (capture.new ≡ capture.old) × (source.new ≡ source.old)
         × (out.new ≡ out.old)) }
 {
@@ -113,41 +101,23 @@ fn stream_team<
     source: &mut S,
     out: &mut O,
 ) -> Result<(Result<Whole, PoolError>, Vec<Worker<L>>), AllocError>
-    requires opened { Opened capture.old }
     requires team { CanRun L.Recorder context.now.script.now team.workers.items team.packets.items }
-    requires all_answers { AreLaneAnswers team.workers.items [] dealing.old.all_answers.items }
-    requires begins { Leaves (lane_at (length dealing.old.all_answers.items) []) 0
-        (taken_from dealing.old.all_answers.items) dealing.old.waiting (O.taken out.old) (O.taken out.old) }
-    requires places { HasPlaces dealing.old.waiting }
-    requires packets { dealing.old.packets ≡ 0 }
-    requires last { dealing.old.last ≡ None }
+    requires may { MayStream team.workers.items capture.old dealing.old (O.taken out.old) }
     ensures served { IfOk result (λ r. Served L.Recorder context.now.script.now team.workers.items r.1.items
         (λ frames. Streamed team.workers.items frames dealing.new.all_answers.items dealing.new.waiting
         capture.old (S.left source.old) (S.left source.new) (O.taken out.old) (O.taken out.new) r.0)) }
-    ensures reads { IfOk result (λ r. ReadsOn S.Source capture.old source.old source.new (IsOk r.0)
-        (IsErrOf r.0 PoolError.ReadFault)) }
-    ensures writes { IfOk result (λ r. Writes O.Sink out.old out.new (IsErrOf r.0 PoolError.WriteFault)) }
-    ensures stopped { IfOk result (λ r. IsTrue capture.new.is_live
-        → ((r.0 ≡ Err PoolError.WriteFault) ⊎ (r.0 ≡ Err PoolError.NoMemory))
-        × GoesOn capture.old capture.new (S.left source.old) (S.left source.new)) }
+    ensures outside { IfOk result (λ r. ReadsAndWrites S.Source O.Sink capture.old capture.new source.old source.new
+        out.old out.new r.0) }
     ensures unchanged { IfErr result (λ _. (capture.new ≡ capture.old) × (source.new ≡ source.old)
         × (out.new ≡ out.old)) }
 {
-    let WorkerContext {
-        rt,
-        alloc,
-        script,
-        natives,
-        gate,
-        failed,
-    } = *context;
     let shared = WorkerContext {
-        rt,
-        alloc,
-        script,
-        natives,
-        gate,
-        failed,
+        rt: context.rt,
+        alloc: context.alloc,
+        script: context.script,
+        natives: context.natives,
+        gate: context.gate,
+        failed: context.failed,
     };
     stream_lent(&shared, team, dealing, capture, source, out)
 }
@@ -159,7 +129,8 @@ fn stream_team<
 /// At most 4,096 packets are on their way between the capture and the output. At an error a front of what was to be
 /// written was written; where that is a fault of writing or want of memory, the capture may still be live, and then
 /// goes on behind the records that were read. It asks a script that is lawful with the application's presets, and 1 to
-/// 16 lanes. It waits for its threads; a lane for which no thread can be started is run in this one, which is no error.
+/// 16 lanes; the context's `failed` is lowered at first, and raised where a lane fails. It waits for its threads; a lane for
+/// which no thread can be started is run in this one, which is no error.
 pub fn forward_lanes<
     R: Threads + Wait + Sync + Send + Copy + Drop + 'static,
     A: App + Copy + Send + Sync + Drop,
@@ -167,21 +138,19 @@ pub fn forward_lanes<
     O: Sink,
     G: Gate + Sync,
 >(
-    rt: &R,
-    alloc: Global,
-    job: &Job<'_, A>,
+    context: &WorkerContext<'_, R, G>,
+    app: &A,
+    workers: usize,
     capture: &mut Capture,
     source: &mut S,
     out: &mut O,
-    natives: &NativeBook,
-    gate: &G,
 ) -> Result<VersionList, PoolError>
     requires opened { Opened capture.old }
-    requires some { 1 ≤ job.now.workers }
-    requires most { job.now.workers ≤ 16 }
-    requires lawful { IsTrue (are_lawful (start (A.meaning job.now.app).presets) (commands_of job.now.script.now)) }
+    requires some { 1 ≤ workers }
+    requires most { workers ≤ 16 }
+    requires lawful { IsTrue (are_lawful (start (A.meaning app.now).presets) (commands_of context.now.script.now)) }
     ensures forwards { (rest : List ℕ) → S.left source.old ≡ Some rest
-        → ForwardsOver (A.meaning job.now.app) job.now.script.now job.now.workers (frames_at capture.old rest)
+        → ForwardsOver (A.meaning app.now) context.now.script.now workers (frames_at capture.old rest)
         (O.taken out.old) (O.taken out.new) result }
     ensures read { IsOk result → IsReadWhole (S.left source.old) (S.left source.new) }
 
@@ -197,19 +166,10 @@ pub fn forward_lanes<
         → ((result ≡ Err PoolError.WriteFault) ⊎ (result ≡ Err PoolError.NoMemory))
         × GoesOn capture.old capture.new (S.left source.old) (S.left source.new) }
 {
-    nothing_is_a_front(job.script);
+    nothing_is_a_front(context.script);
     beginning_is_right();
-    let (team, all_answers) = make_forward_team(rt, alloc, job)?;
-    let mut dealing = Dealing::new(alloc, all_answers)?;
-    let failed = AtomicBool::new(false);
-    let context = WorkerContext {
-        rt,
-        alloc,
-        script: job.script,
-        natives,
-        gate,
-        failed: &failed,
-    };
-    let (read, workers) = stream_team(&context, team, &mut dealing, capture, source, out)?;
-    leave(&context, workers, dealing, read, capture, out)
+    let (team, all_answers) = make_forward_team(context, app, workers)?;
+    let mut dealing = Dealing::new(context.alloc, all_answers)?;
+    let (read, served) = stream_team(context, team, &mut dealing, capture, source, out)?;
+    leave(context, served, dealing, read, capture, out)
 }

@@ -1,4 +1,3 @@
-use Rattle.std.proofs.Common.{refl, ◌∙◌}
 use Rattle.forward_dispatch.proofs.TakingAnswers.{all_taken_none, all_taken_then, offers_nothing, offers_then}
 use Rattle.forward_dispatch.proofs.lane_answers.take_all.Goals as goal
 
@@ -6,8 +5,6 @@ pub loop-lane-init : goal.loop-lane-init
 loop-lane-init c = record {
   takes = all_taken_none c.args.all_answers.now.items c.requires.counted;
   offers = offers_nothing c.args.all_answers.now.items c.args.waiting.now;
-  next = refl;
-  places = refl;
 }
 
 pub loop-lane-preserved : goal.loop-lane-preserved
@@ -19,6 +16,4 @@ loop-lane-preserved c =
     record {
       takes = all_taken_then first old new inv.takes c.take_answers-took.ensures.takes;
       offers = offers_then first old new c.args.waiting.now c.loop-lane.waiting c.take_answers-took.new.waiting inv.takes inv.offers c.take_answers-took.ensures.offers;
-      next = c.take_answers-took.ensures.next ∙ inv.next;
-      places = c.take_answers-took.ensures.places ∙ inv.places;
     }

@@ -9,8 +9,6 @@ pub loop-lane_answers-init : goal.loop-lane_answers-init
 loop-lane_answers-init c = record {
   takes = record { same = refl; ring = SameRx-refl c.args.lane_answers.now.answers; counted = c.requires.counted };
   offers = offers_none c.args.lane_answers.now c.args.lane_answers.now c.args.waiting.now refl;
-  next = refl;
-  places = refl;
 }
 
 pub loop-lane_answers-preserved : goal.loop-lane_answers-preserved
@@ -28,7 +26,5 @@ loop-lane_answers-preserved c =
         counted = let e = inv.takes.counted in let f = ap length took ∙ length_push (taken before.answers) x in omega (arith, e, f);
       };
       offers = offers_one first before (record before { answers = c.take.new.self; taken = before.taken + 1 }) c.args.waiting.now c.loop-lane_answers.waiting c.offer.new.waiting x
-          c.taking_stays_right.ensures.keeps inv.offers inv.takes.same fewer took c.offer.ensures.offered;
-      next = c.offer.ensures.next ∙ inv.next;
-      places = c.offer.ensures.places ∙ inv.places;
+          c.taking_stays_right.ensures.keeps inv.offers inv.takes.same fewer took c.offer.ensures.offered c.offer.ensures.turn;
     }

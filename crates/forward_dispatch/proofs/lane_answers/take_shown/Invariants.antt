@@ -1,4 +1,4 @@
-use Rattle.std.proofs.Common.{◌≡◌, ◌-◌, length}
+use Rattle.std.proofs.Common.{◌-◌}
 use Rattle.forward_dispatch.specs.Drained.{Offers}
 use Rattle.forward_dispatch.specs.TakenAnswers.{HasTaken}
 use Rattle.forward_dispatch.proofs.lane_answers.take_shown.Given as goal
@@ -8,8 +8,6 @@ abbrev pub invariant-loop-lane_answers : goal.invariant-loop-lane_answers
 invariant-loop-lane_answers l = record {
   takes : HasTaken l.fn.lane_answers l.lane_answers;
   offers : Offers l.fn.lane_answers l.lane_answers l.fn.waiting l.waiting;
-  next : l.waiting.next ≡ l.fn.waiting.next;
-  places : length l.waiting.window ≡ length l.fn.waiting.window;
 }
 
 abbrev pub decreases-loop-lane_answers : goal.decreases-loop-lane_answers

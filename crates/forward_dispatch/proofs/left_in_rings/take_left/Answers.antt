@@ -26,5 +26,5 @@ loop-lane_answers-preserved c =
           (next_front (taken look.new.self) (known look.new.self) (known c.take.new.self) (sent look.new.tx) x look.ensures.all c.in-Some.ensures.order
           (λ none. c.if-beside-eq0.false (look.ensures.left ∙ none)));
       offers = offers_one c.args.lane_answers.now before (record before { answers = c.take.new.self; taken = before.taken + 1 }) c.args.waiting.now c.loop-lane_answers.waiting c.offer.new.waiting x
-          c.taking_stays_right.ensures.keeps inv.offers inv.same fewer took c.offer.ensures.offered;
+          c.taking_stays_right.ensures.keeps inv.offers inv.same fewer took c.offer.ensures.offered c.offer.ensures.turn;
     }

@@ -28,41 +28,45 @@ leave-requires-send-L g c κs within =
     let lane = lane_send _ _ (view.ghosts (copied 0 g.row.R)) c.type_bounds.send-A (user.the_send _ c.type_bounds.send-R) in
     param_send 1 _ (arg_send _ yes _ lane)
 
-pub stream_team-requires-clause-all_answers : goal.stream_team-requires-clause-all_answers
-stream_team-requires-clause-all_answers g c κs within =
-    subst (λ (a : List LaneAnswers). AreLaneAnswers c.in_ok-team.team.workers.items [] a) (sym c.in_ok-dealing.ensures.answers) c.in_ok-team.ensures.all_answers.all_answers_are
-
-pub stream_team-requires-clause-begins : goal.stream_team-requires-clause-begins
-stream_team-requires-clause-begins g c κs within =
+pub stream_team-requires-clause-may : goal.stream_team-requires-clause-may
+stream_team-requires-clause-may g c κs within =
     let all_answers = c.in_ok-team.all_answers.items in
+    let dealing = c.in_ok-dealing.ensures in
     let waiting = c.in_ok-dealing.dealing.waiting in
     let out = g.O.Sink.taken c.args.out.now in
-    subst (λ (a : List LaneAnswers). Leaves (lane_at (length a) []) 0 (taken_from a) waiting out out) (sym c.in_ok-dealing.ensures.answers)
-    (run_begins c.in_ok-team.team.workers.items all_answers waiting out c.in_ok-team.ensures.all_answers
-    (c.beginning_is_right.ensures.keeps (lane_at (length all_answers) []) waiting 4096 c.in_ok-dealing.ensures.next c.in_ok-dealing.ensures.window))
+    record {
+      opened = c.requires.opened;
+      all_answers_are = subst (λ (a : List LaneAnswers). AreLaneAnswers c.in_ok-team.team.workers.items [] a) (sym dealing.answers) c.in_ok-team.ensures.all_answers.all_answers_are;
+      none_left = subst (λ (a : List LaneAnswers). Leaves (lane_at (length a) []) 0 (taken_from a) waiting out out) (sym dealing.answers)
+          (run_begins c.in_ok-team.team.workers.items all_answers waiting out c.in_ok-team.ensures.all_answers
+          (c.beginning_is_right.ensures.keeps (lane_at (length all_answers) []) waiting 4096 dealing.next dealing.window));
+      places = dealing.places;
+      packets = dealing.packets;
+      last = dealing.last;
+    }
 
 pub returns-in_err-dealing-clause-forwards : goal.returns-in_err-dealing-clause-forwards
 returns-in_err-dealing-clause-forwards g c = λ rest is.
     let p = err_from_is_err_and c.from_residual-in_err-dealing.result c.from_residual-in_err-dealing.ensures.1 in
-    let app = g.A.App.meaning c.args.job.now.app in
+    let app = g.A.App.meaning c.args.app.now in
     let f = frames_at c.args.capture.now rest in
-    ended_early app c.args.job.now.script.now c.args.job.now.workers f (g.O.Sink.taken c.args.out.now) c.from_residual-in_err-dealing.result (p.1 ∙ ap Err p.2)
-    (c.nothing_is_a_front.ensures.front app c.args.job.now.workers f.frames (g.O.Sink.taken c.args.out.now))
+    ended_early app c.args.context.now.script.now c.args.workers f (g.O.Sink.taken c.args.out.now) c.from_residual-in_err-dealing.result (p.1 ∙ ap Err p.2)
+    (c.nothing_is_a_front.ensures.front app c.args.workers f.frames (g.O.Sink.taken c.args.out.now))
 
 pub returns-in_err-read-clause-forwards : goal.returns-in_err-read-clause-forwards
 returns-in_err-read-clause-forwards g c = λ rest is.
     let p = err_from_is_err_and c.from_residual-in_err-read.result c.from_residual-in_err-read.ensures.1 in
-    let app = g.A.App.meaning c.args.job.now.app in
+    let app = g.A.App.meaning c.args.app.now in
     let f = frames_at c.args.capture.now rest in
-    subst (λ (o : g.row.O.Denot). ForwardsOver app c.args.job.now.script.now c.args.job.now.workers f (g.O.Sink.taken c.args.out.now) (g.O.Sink.taken o) c.from_residual-in_err-read.result)
+    subst (λ (o : g.row.O.Denot). ForwardsOver app c.args.context.now.script.now c.args.workers f (g.O.Sink.taken c.args.out.now) (g.O.Sink.taken o) c.from_residual-in_err-read.result)
     (sym c.in_err-read.ensures.unchanged.2)
-    (ended_early app c.args.job.now.script.now c.args.job.now.workers f (g.O.Sink.taken c.args.out.now) c.from_residual-in_err-read.result (p.1 ∙ ap Err p.2)
-    (c.nothing_is_a_front.ensures.front app c.args.job.now.workers f.frames (g.O.Sink.taken c.args.out.now)))
+    (ended_early app c.args.context.now.script.now c.args.workers f (g.O.Sink.taken c.args.out.now) c.from_residual-in_err-read.result (p.1 ∙ ap Err p.2)
+    (c.nothing_is_a_front.ensures.front app c.args.workers f.frames (g.O.Sink.taken c.args.out.now)))
 
 pub returns-clause-forwards : goal.returns-clause-forwards
 returns-clause-forwards g c = λ rest is.
-    let app = g.A.App.meaning c.args.job.now.app in
-    let script = c.args.job.now.script.now in
+    let app = g.A.App.meaning c.args.app.now in
+    let script = c.args.context.now.script.now in
     let s = c.in_ok-read.ensures.served in
     let over = c.leave.ensures.ends app s.frames c.in_ok-team.team.workers.items c.in_ok-team.team.packets.items c.args.capture.now
     (g.S.Source.left c.args.source.now) (g.S.Source.left c.stream_team.new.source) (g.O.Sink.taken c.args.out.now) rest
@@ -76,11 +80,11 @@ returns-clause-read g c = λ ok rest is.
 
 pub returns-clause-reads : goal.returns-clause-reads
 returns-clause-reads g c =
-    reads_less g.S.Source c.args.capture.now c.args.source.now c.stream_team.new.source c.leave.ensures.ok c.leave.ensures.read_fault c.in_ok-read.ensures.reads
+    reads_less g.S.Source c.args.capture.now c.args.source.now c.stream_team.new.source c.leave.ensures.ok c.leave.ensures.read_fault c.in_ok-read.ensures.outside.reads
 
 pub returns-clause-writes : goal.returns-clause-writes
 returns-clause-writes g c =
-    let before = c.in_ok-read.ensures.writes in
+    let before = c.in_ok-read.ensures.outside.writes in
     let then = c.leave.ensures.counts in
     record {
       cause = record {
@@ -106,7 +110,7 @@ returns-in_err-read-clause-never_heavy g c =
 pub returns-clause-never_heavy : goal.returns-clause-never_heavy
 returns-clause-never_heavy g c =
     let s = c.in_ok-read.ensures.served in
-    c.leave.ensures.never_heavy (g.A.App.meaning c.args.job.now.app) s.frames c.in_ok-team.team.workers.items c.in_ok-team.team.packets.items c.args.capture.now
+    c.leave.ensures.never_heavy (g.A.App.meaning c.args.app.now) s.frames c.in_ok-team.team.workers.items c.in_ok-team.team.packets.items c.args.capture.now
     (g.S.Source.left c.args.source.now) (g.S.Source.left c.stream_team.new.source) (g.O.Sink.taken c.args.out.now)
     s.few c.in_ok-team.ensures.team c.in_ok-team.ensures.keep s.served s.done
 
@@ -128,7 +132,7 @@ returns-in_err-read-clause-stopped g c = λ live.
 
 pub returns-clause-stopped : goal.returns-clause-stopped
 returns-clause-stopped g c = λ live.
-    let stopped = c.in_ok-read.ensures.stopped live in
+    let stopped = c.in_ok-read.ensures.outside.stopped live in
     (told_last c.in_ok-read.read c.leave.result stopped.0 c.leave.ensures.error, stopped.1)
 
 pub returns-in_err-team-clause-reads : goal.returns-in_err-team-clause-reads

@@ -54,7 +54,7 @@ returns-in_err-write_ready-clause-ends g c app frames begins packets start old n
       tt,
       cut_at g.L.Recorder app script frames begins workers all_answers c.drain.new.all_answers.items c.args.dealing.waiting c.drain.new.waiting start old new before
           (g.O.Sink.taken c.args.out.now) rest c.args.read served streamed c.drain.ensures.drained c.drain.ensures.offered law (g.O.Sink.taken c.write_ready.new.out)
-          (c.in_err-write_ready.ensures.cut (lane_at (length all_answers) frames) (length frames) (taken_from c.drain.new.all_answers.items) before
+          (c.in_err-write_ready.ensures.leaves.cut (lane_at (length all_answers) frames) (length frames) (taken_from c.drain.new.all_answers.items) before
           (leaves_now g.L.Recorder app script frames begins workers all_answers c.drain.new.all_answers.items c.args.dealing.waiting c.drain.new.waiting start old new before
           (g.O.Sink.taken c.args.out.now) rest c.args.read served streamed c.drain.ensures.drained c.drain.ensures.offered law (c.is_write_fault.ensures.other c.if-is_write_fault.false))),
     )
@@ -65,7 +65,7 @@ returns-in_err-write_ready-clause-error g c =
     told_fault c.args.read c.from_residual.result (p.1 ∙ ap Err p.2)
 
 pub returns-in_err-write_ready-clause-write_fault : goal.returns-in_err-write_ready-clause-write_fault
-returns-in_err-write_ready-clause-write_fault g c = λ fault. inr (c.write_ready.ensures.cause.failed (subst IsErr (sym c.in_err-write_ready.was) refl))
+returns-in_err-write_ready-clause-write_fault g c = λ fault. inr (c.write_ready.ensures.leaves.writes.cause.cause (subst IsErr (sym c.in_err-write_ready.was) refl))
 
 pub returns-clause-ends : goal.returns-clause-ends
 returns-clause-ends g c app frames begins packets start old new before rest few team kept served streamed is =
@@ -80,7 +80,7 @@ returns-clause-ends g c app frames begins packets start old new before rest few 
       refused_as frames start old new rest c.in-Err.error (subst (StopsAs frames start old new) c.in-Err.is streamed.stops) is,
       stopped_at g.L.Recorder app script frames begins workers all_answers c.drain.new.all_answers.items c.args.dealing.waiting c.drain.new.waiting start old new before
           (g.O.Sink.taken c.args.out.now) rest c.args.read served streamed c.drain.ensures.drained c.drain.ensures.offered law (g.O.Sink.taken c.write_ready.new.out) c.write_ready.new.waiting
-          (c.in_ok-write_ready.ensures.leaves (lane_at (length all_answers) frames) (length frames) (taken_from c.drain.new.all_answers.items) before
+          (c.in_ok-write_ready.ensures.leaves.whole (lane_at (length all_answers) frames) (length frames) (taken_from c.drain.new.all_answers.items) before
           (leaves_now g.L.Recorder app script frames begins workers all_answers c.drain.new.all_answers.items c.args.dealing.waiting c.drain.new.waiting start old new before
           (g.O.Sink.taken c.args.out.now) rest c.args.read served streamed c.drain.ensures.drained c.drain.ensures.offered law (c.is_write_fault.ensures.other c.if-is_write_fault.false))),
     )
@@ -101,7 +101,7 @@ returns-in-Ok-clause-ends g c app frames begins packets start old new before res
     over_at g.L.Recorder app script frames begins workers all_answers c.drain.new.all_answers.items c.args.dealing.waiting c.drain.new.waiting start old new before
     (g.O.Sink.taken c.args.out.now) rest c.args.read served streamed c.drain.ensures.drained c.drain.ensures.offered law
     (g.O.Sink.taken c.write_ready.new.out) c.drain.new.workers.items c.drain.ensures.lanes whole c.write_ready.new.waiting
-    (c.in_ok-write_ready.ensures.leaves (lane_at (length all_answers) frames) (length frames) (taken_from c.drain.new.all_answers.items) before
+    (c.in_ok-write_ready.ensures.leaves.whole (lane_at (length all_answers) frames) (length frames) (taken_from c.drain.new.all_answers.items) before
     (leaves_now g.L.Recorder app script frames begins workers all_answers c.drain.new.all_answers.items c.args.dealing.waiting c.drain.new.waiting start old new before
     (g.O.Sink.taken c.args.out.now) rest c.args.read served streamed c.drain.ensures.drained c.drain.ensures.offered law (c.is_write_fault.ensures.other c.if-is_write_fault.false)))
     c.in_ok-write_ready.ensures.none c.in-Ok.whole (subst (StopsAs frames start old new) c.in-Ok.is streamed.stops) is c.versions_in.result c.versions_in.ensures.good

@@ -1,20 +1,28 @@
-use Rattle.std.proofs.Common.{◌+◌, ◌∙◌, ap, length}
+use Rattle.std.proofs.Common.{◌+◌, ◌∙◌, refl, sym, ap, length}
 use Rattle.std.proofs.lemmas.Result.{IfOk-at_ok}
 use Rattle.worker_pool.specs.Making.{IsFresh}
 use Rattle.worker_pool.proofs.Making.{none_begun}
-use Rattle.forward_run.proofs.Forwarding.{none_unused}
+use Rattle.forward_dispatch.specs.declared.lane_answers.LaneAnswers.{LaneAnswers}
+use Rattle.forward_run.proofs.Forwarding.{none_unused, more_unused}
 use Rattle.forward_run.proofs.make.answering_team_of.Goals as goal
 
 pub loop-preserved : goal.loop-preserved
-loop-preserved g c = record {
-  callable = c.loop.invariant.callable;
-  begun = λ app keep fresh.
-      c.in_ok-enlist_answering.ensures.begun app keep
-      (IfOk-at_ok (λ lane. IsFresh g.L.Recorder app keep lane) c.in_ok-make.was (fresh c.make.result c.make.ensures))
-      (c.loop.invariant.begun app keep fresh);
-  all_answers = c.in_ok-enlist_answering.ensures.all_answers c.loop.invariant.all_answers;
-  count = c.in_ok-enlist_answering.ensures.count ∙ ap (λ n. n + 1) c.loop.invariant.count;
-}
+loop-preserved g c =
+    let added = c.in_ok-enlist.ensures.added in
+    let ring = c.in_ok-answers_tx.ensures in
+    let lane_answers : LaneAnswers = record { answers = c.in_ok-answers_tx.answers; sent = 0; taken = 0 } in
+    let items = c.in_ok-push.ensures.items in
+    record {
+      callable = c.loop.invariant.callable;
+      begun = λ app keep fresh.
+          c.in_ok-enlist.ensures.begun app keep
+          (IfOk-at_ok (λ lane. IsFresh g.L.Recorder app keep lane) c.in_ok-lane.was (fresh c.make.result c.make.ensures))
+          (c.loop.invariant.begun app keep fresh);
+      all_answers = rw (added.2, items) (more_unused c.loop.team.workers.items c.loop.all_answers.items added.0 lane_answers c.loop.invariant.all_answers
+          (record { ring = c.in_ok-answers_tx.answers_tx; answers = added.1; unsent = ring.sent.0; ends = ring.ends })
+          refl (sym (ap length ring.taken.0)) ring.taken.0);
+      count = c.in_ok-enlist.ensures.count ∙ ap (λ n. n + 1) c.loop.invariant.count;
+    }
 
 pub loop-init : goal.loop-init
 loop-init g c = record {

@@ -11,7 +11,7 @@ returns-in_err-hand_on-clause-cut g c =
     let mid = g.O.Sink.taken c.write_ready.new.out in
     let new = g.O.Sink.taken c.hand_on.new.out in
     let waiting = c.write_ready.new.waiting in
-    let so_far = written_then first now c.args.self.now.waiting c.loop.self.waiting old (g.O.Sink.taken c.loop.out) c.loop.invariant.leaves waiting mid c.in_ok-write_ready.ensures.leaves in
+    let so_far = written_then first now c.args.self.now.waiting c.loop.self.waiting old (g.O.Sink.taken c.loop.out) c.loop.invariant.leaves waiting mid c.in_ok-write_ready.ensures.leaves.whole in
     cut_nowhere first now c.args.self.now.waiting waiting old new (handed_then first now c.args.self.now.waiting waiting old mid so_far new c.hand_on.ensures.bytes)
 
 pub returns-then-may_read-clause-leaves : goal.returns-then-may_read-clause-leaves
@@ -22,7 +22,7 @@ returns-then-may_read-clause-leaves g c =
     let mid = g.O.Sink.taken c.write_ready.new.out in
     let new = g.O.Sink.taken c.hand_on.new.out in
     let waiting = c.write_ready.new.waiting in
-    let so_far = written_then first now c.args.self.now.waiting c.loop.self.waiting old (g.O.Sink.taken c.loop.out) c.loop.invariant.leaves waiting mid c.in_ok-write_ready.ensures.leaves in
+    let so_far = written_then first now c.args.self.now.waiting c.loop.self.waiting old (g.O.Sink.taken c.loop.out) c.loop.invariant.leaves waiting mid c.in_ok-write_ready.ensures.leaves.whole in
     λ other. handed_then first now c.args.self.now.waiting waiting old mid so_far new c.hand_on.ensures.bytes
 
 pub returns-then-may_read-clause-cut : goal.returns-then-may_read-clause-cut
@@ -33,7 +33,7 @@ returns-then-may_read-clause-cut g c =
     let mid = g.O.Sink.taken c.write_ready.new.out in
     let new = g.O.Sink.taken c.hand_on.new.out in
     let waiting = c.write_ready.new.waiting in
-    let so_far = written_then first now c.args.self.now.waiting c.loop.self.waiting old (g.O.Sink.taken c.loop.out) c.loop.invariant.leaves waiting mid c.in_ok-write_ready.ensures.leaves in
+    let so_far = written_then first now c.args.self.now.waiting c.loop.self.waiting old (g.O.Sink.taken c.loop.out) c.loop.invariant.leaves waiting mid c.in_ok-write_ready.ensures.leaves.whole in
     cut_nowhere first now c.args.self.now.waiting waiting old new (handed_then first now c.args.self.now.waiting waiting old mid so_far new c.hand_on.ensures.bytes)
 
 pub returns-then-load-clause-cut : goal.returns-then-load-clause-cut
@@ -43,7 +43,7 @@ returns-then-load-clause-cut g c =
     let old = g.O.Sink.taken c.args.out.now in
     let new = g.O.Sink.taken c.write_ready.new.out in
     cut_nowhere first now c.args.self.now.waiting c.write_ready.new.waiting old new
-    (written_then first now c.args.self.now.waiting c.loop.self.waiting old (g.O.Sink.taken c.loop.out) c.loop.invariant.leaves c.write_ready.new.waiting new c.in_ok-write_ready.ensures.leaves)
+    (written_then first now c.args.self.now.waiting c.loop.self.waiting old (g.O.Sink.taken c.loop.out) c.loop.invariant.leaves c.write_ready.new.waiting new c.in_ok-write_ready.ensures.leaves.whole)
 
 pub take_turns-worked-requires : goal.take_turns-worked-requires
 take_turns-worked-requires g c =
@@ -62,12 +62,12 @@ loop-preserved g c =
       inputs = λ begins frames are. c.take_turns-worked.ensures begins frames (inv.inputs begins frames are);
       takes = all_taken_then first now next inv.takes c.take_all-answered.ensures.takes;
       leaves = offered_then first now c.args.self.now.waiting c.write_ready.new.waiting old new
-          (written_then first now c.args.self.now.waiting c.loop.self.waiting old (g.O.Sink.taken c.loop.out) inv.leaves c.write_ready.new.waiting new c.in_ok-write_ready.ensures.leaves)
+          (written_then first now c.args.self.now.waiting c.loop.self.waiting old (g.O.Sink.taken c.loop.out) inv.leaves c.write_ready.new.waiting new c.in_ok-write_ready.ensures.leaves.whole)
           next c.take_all-answered.new.waiting inv.takes c.take_all-answered.ensures.offers;
       packets = c.loop.invariant.packets;
       last = c.loop.invariant.last;
-      places = c.take_all-answered.ensures.places ∙ c.write_ready.ensures.places ∙ inv.places;
-      later = let then = c.write_ready.ensures.later in let same = c.take_all-answered.ensures.next in let before = inv.later in omega (arith, then, same, before);
+      places = c.take_all-answered.ensures.offers.turn.places ∙ c.write_ready.ensures.leaves.places ∙ inv.places;
+      later = let then = c.write_ready.ensures.leaves.later in let same = c.take_all-answered.ensures.offers.turn.next in let before = inv.later in omega (arith, then, same, before);
       faults = search rules;
       lasts = search rules;
     }

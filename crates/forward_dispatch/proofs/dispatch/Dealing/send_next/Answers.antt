@@ -13,20 +13,20 @@ use Rattle.forward_dispatch.proofs.dispatch.Dealing.send_next.Goals as goal
 
 pub send_frame-lane-requires-clause-inputs : goal.send_frame-lane-requires-clause-inputs
 send_frame-lane-requires-clause-inputs g c =
-    let given = c.requires.begins in
-    (given.0, given.1, given.2.inputs_are)
+    let given = c.requires.under_way in
+    (given.begins, given.frames, given.sent.inputs_are)
 
 pub count_sent-requires-clause-few : goal.count_sent-requires-clause-few
 count_sent-requires-clause-few g c = λ r.
-    let given = c.requires.begins in
-    let s = given.2 in
+    let given = c.requires.under_way in
+    let s = given.sent in
     let all_answers = c.args.self.now.all_answers.items in
     let below : c.send_frame-lane.result < length all_answers = omega (arith, c.send_frame-lane.ensures.within, s.inputs_are.count, s.all_answers_are.count) in
-    few_sent given.0 given.1 all_answers c.send_frame-lane.result r s.all_answers_are below (omega (arith, s.count, c.requires.few))
+    few_sent given.begins given.frames all_answers c.send_frame-lane.result r s.all_answers_are below (omega (arith, s.count, c.requires.few))
 
 pub take_answers-requires-clause-within : goal.take_answers-requires-clause-within
 take_answers-requires-clause-within g c =
-    let s = c.requires.begins.2 in
+    let s = c.requires.under_way.sent in
     let all_answers = c.args.self.now.all_answers.items in
     let lane = c.send_frame-lane.result in
     let below : lane < length all_answers = omega (arith, c.send_frame-lane.ensures.within, s.inputs_are.count, s.all_answers_are.count) in
@@ -36,8 +36,8 @@ take_answers-requires-clause-within g c =
 
 pub take_answers-requires-clause-counted : goal.take_answers-requires-clause-counted
 take_answers-requires-clause-counted g c =
-    let given = c.requires.begins in
-    let s = given.2 in
+    let given = c.requires.under_way in
+    let s = given.sent in
     let all_answers = c.args.self.now.all_answers.items in
     let lane = c.send_frame-lane.result in
     let below : lane < length all_answers = omega (arith, c.send_frame-lane.ensures.within, s.inputs_are.count, s.all_answers_are.count) in
@@ -45,8 +45,8 @@ take_answers-requires-clause-counted g c =
     let lanes : length c.args.self.now.inputs.items ≡ length all_answers = omega (arith, s.inputs_are.count, s.all_answers_are.count) in
     let own : lane ≡ lane_of_sight (sight_of c.args.frame.bytes) (length all_answers) = c.send_frame-lane.ensures.lane ∙ ap (lane_of_sight (sight_of c.args.frame.bytes)) lanes in
     subst AreCounted (sym {A = List LaneAnswers} (c.count_sent.ensures r))
-    (are_counted given.0 (given.1 ++ c.args.frame ∷ []) (counted_on all_answers lane r)
-    (all_answers_sent c.sending_stays_right.ensures.own c.sending_stays_right.ensures.others c.later_lanes_change_nothing.ensures.share given.0 given.1 c.args.frame all_answers lane r below own
+    (are_counted given.begins (given.frames ++ c.args.frame ∷ []) (counted_on all_answers lane r)
+    (all_answers_sent c.sending_stays_right.ensures.own c.sending_stays_right.ensures.others c.later_lanes_change_nothing.ensures.share given.begins given.frames c.args.frame all_answers lane r below own
     s.all_answers_are))
 
 pub returns-clause-went : goal.returns-clause-went

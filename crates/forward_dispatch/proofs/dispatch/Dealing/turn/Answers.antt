@@ -81,15 +81,6 @@ returns-in-End-clause-ends g c = λ begins frames start first before few s reads
           (read_end start bytes frames c.args.capture.now c.next.new.self c.next.new.frame left last gives (reads bytes told));
     })
 
-pub send_next-requires-clause-some : goal.send_next-requires-clause-some
-send_next-requires-clause-some g c =
-    let given = c.requires.begins in
-    let now = c.await_place.ensures.inputs given.0 given.1 given.2.inputs_are in
-    let some = c.requires.some in
-    let one = given.2.inputs_are.count in
-    let two = now.count in
-    omega (arith, some, one, two)
-
 pub send_next-requires-clause-few : goal.send_next-requires-clause-few
 send_next-requires-clause-few g c =
     let moved = c.in_ok-next.ensures.moved (ap (λ s. Ok s) c.in-Frame.is) in
@@ -99,11 +90,17 @@ send_next-requires-clause-few g c =
     let kept = c.await_place.ensures.packets in
     omega (arith, within, count, same, kept)
 
-pub send_next-requires-clause-begins : goal.send_next-requires-clause-begins
-send_next-requires-clause-begins g c =
-    let given = c.requires.begins in
+pub send_next-requires-clause-under_way : goal.send_next-requires-clause-under_way
+send_next-requires-clause-under_way g c =
+    let given = c.requires.under_way in
     let d = record c.await_place.new.self { spare = c.next_frame-frame.new.spare } in
-    (given.0, given.1, awaited_sent g.L.Recorder c.args.context.now.script.now c.args.self.now d c.await_place.ensures.inputs c.await_place.ensures.takes c.await_place.ensures.packets c.await_place.ensures.last given.0 given.1 given.2)
+    let sent = awaited_sent g.L.Recorder c.args.context.now.script.now c.args.self.now d c.await_place.ensures.inputs c.await_place.ensures.takes c.await_place.ensures.packets c.await_place.ensures.last given.begins given.frames given.sent in
+    record {
+      some = let some = given.some in let one = given.sent.inputs_are.count in let two = sent.inputs_are.count in omega (arith, some, one, two);
+      begins = given.begins;
+      frames = given.frames;
+      sent = sent;
+    }
 
 pub returns-in-Frame-clause-sends : goal.returns-in-Frame-clause-sends
 returns-in-Frame-clause-sends g c = λ is.

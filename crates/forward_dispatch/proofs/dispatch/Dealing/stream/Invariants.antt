@@ -3,7 +3,7 @@ use Rattle.pcap_source.specs.Captured.{Captured}
 use Rattle.worker_pool.specs.GoesOn.{IsReadTo}
 use Rattle.forward_dispatch.specs.OnTheirWay.{HasPlaces, AreFew}
 use Rattle.forward_dispatch.specs.Turns.{WentOn}
-use Rattle.forward_dispatch.proofs.dispatch.Dealing.read_all.Given as goal
+use Rattle.forward_dispatch.proofs.dispatch.Dealing.stream.Given as goal
 
 -- The capture is live and has given so many frames. Their packets were sent, they and what is left are the capture, and few are on their
 -- way.
