@@ -58,18 +58,20 @@ returns g c =
       front = λ text part. front_below g.O.Sink.taken out (start_of handed) (given_to a) (given_to b) (given_to handed) (g.O.Sink.taken got) text start new.given part finish.given inner.between;
       lasts = ap g.O.Sink.lasting inner.inner ∙ ap (λ p. p.1) finish.told.lasts ∙ ap (λ p. p.1) ran.out_lasts ∙ ap g.O.Sink.lasting new.over;
     }) ran in
-    record { ran = record {
-      done = done;
-      alone = λ zero t is.
-          finishes_alone c.what_one_worker_has_is_allowed.ensures.outcome c.what_one_worker_has_is_allowed.ensures.forwarded c.without_live_commands_all_versions_are_known.ensures app settings
-          (g.H.Shelf.content c.args.shelf.now) (g.S.Source.left c.args.capture.now) t _ _ _ is (done zero t is);
-      rest = handed_by c.finish-handed.result c.run_chosen-ended.result.status
-          (λ same. let stays = after.stays same in rw (stays.0, stays.1) run)
-          (λ failed zero.
-          ran_failed g.S.Source g.H.Shelf g.O.Sink g.E.Sink app settings c.args.capture.now c.run_chosen-ended.new.capture c.args.shelf.now c.run_chosen-ended.new.shelf
-          out got c.args.err.now c.run_chosen-ended.new.err c.handed_on-ended.new.err
-          c.run_chosen-ended.result c.handed_on-ended.result _ _ run zero (c.run_chosen-ended.ensures.ran.done zero)
-          (rose_below g.O.Sink.faults out (start_of handed) (gathering_faults a) (gathering_faults handed) (gathering_faults handed) (g.O.Sink.faults got) start first (le_refl _) inner.cause
-          (rose_since (gathering_faults a) (gathering_faults b) (gathering_faults handed) ran.write_fault.later (finish.told.cause.failed failed)))
-          (after.status failed zero) (after.told failed zero).0 (after.told failed zero).1 after.lasts);
-    } }
+    record {
+      ran = record {
+        done = done;
+        alone = λ zero t is.
+            finishes_alone c.what_one_worker_has_is_allowed.ensures.outcome c.what_one_worker_has_is_allowed.ensures.forwarded c.without_live_commands_all_versions_are_known.ensures app settings
+            (g.H.Shelf.content c.args.shelf.now) (g.S.Source.left c.args.capture.now) t _ _ _ is (done zero t is);
+        rest = handed_by c.finish-handed.result c.run_chosen-ended.result.status
+            (λ same. let stays = after.stays same in rw (stays.0, stays.1) run)
+            (λ failed zero.
+            ran_failed g.S.Source g.H.Shelf g.O.Sink g.E.Sink app settings c.args.capture.now c.run_chosen-ended.new.capture c.args.shelf.now c.run_chosen-ended.new.shelf
+            out got c.args.err.now c.run_chosen-ended.new.err c.handed_on-ended.new.err
+            c.run_chosen-ended.result c.handed_on-ended.result _ _ run zero (c.run_chosen-ended.ensures.ran.done zero)
+            (rose_below g.O.Sink.faults out (start_of handed) (gathering_faults a) (gathering_faults handed) (gathering_faults handed) (g.O.Sink.faults got) start first (le_refl _) inner.cause
+            (rose_since (gathering_faults a) (gathering_faults b) (gathering_faults handed) ran.write_fault.later (finish.told.cause.failed failed)))
+            (after.status failed zero) (after.told failed zero).0 (after.told failed zero).1 after.lasts);
+      };
+    }
