@@ -1,8 +1,8 @@
 //! The key of a connection between two IPv4 endpoints, in 16 bytes.
 
 ghost use Rattle.std.specs.Prelude.{◌≡◌, ◌+◌, ◌*◌, ◌<◌, ◌^◌, IfSome, is_some, true};
-ghost use Rattle.flow_table.specs.Key.{EndpointPair};
-ghost use Rattle.flow_table.specs.Pair.{is_ipv4_pair, endpoint_of};
+ghost use Rattle.flow_table.specs.Key.{EndpointPair, key_between};
+ghost use Rattle.flow_table.specs.Pair.{is_ipv4, is_ipv4_pair, endpoint_of};
 
 use crate::endpoint::Endpoint;
 use crate::key::Key;
@@ -43,6 +43,19 @@ fn endpoint_of(number: u64) -> Endpoint
     }
 }
 
+// The number of an endpoint of IPv4.
+#[inline(always)]
+fn number_of(endpoint: &Endpoint) -> Option<u64>
+    ensures ipv4 { is_some result ≡ is_ipv4 endpoint.now }
+    ensures within { IfSome result (λ number. number < 2 ^ 48) }
+    ensures number { IfSome result (λ number. endpoint_of number ≡ endpoint.now) }
+{
+    match *endpoint {
+        Endpoint::V4 { addr, port } => Some(u64::from(addr) * PORTS + u64::from(port)),
+        Endpoint::V6 { .. } => None,
+    }
+}
+
 impl Pair {
     /// The pair of a key, where both endpoints are of IPv4.
     #[inline(always)]
@@ -59,6 +72,21 @@ impl Pair {
         };
         let hi = u64::from(addr) * PORTS + u64::from(port);
         Some(Pair { lo, hi })
+    }
+
+    /// The pair of two endpoints in either order, where both are of IPv4: two numbers tell which is the lower one.
+    #[inline(always)]
+    pub(crate) fn between(a: &Endpoint, b: &Endpoint) -> Option<Pair>
+        ensures ipv4 { is_some result ≡ is_ipv4_pair (key_between a.now b.now) }
+        ensures pair { IfSome result (λ pair. pair ≡ key_between a.now b.now) }
+    {
+        let one = number_of(a)?;
+        let other = number_of(b)?;
+        if one <= other {
+            Some(Pair { lo: one, hi: other })
+        } else {
+            Some(Pair { lo: other, hi: one })
+        }
     }
 
     /// The key that it is the pair of.

@@ -1,12 +1,14 @@
 //! The table of open connections.
 
-ghost use Rattle.std.specs.Prelude.{◌≡◌, ◌+◌, ◌↔◌, None, Some, IsNone, IfSome, IfNone, OnOk, OnErr, IfErr};
+ghost use Rattle.std.specs.Prelude.{◌≡◌, ◌+◌, ◌↔◌, None, Some, IsNone, IfSome, IfNone, OnOk, OnErr, IfErr, true, false};
 ghost use Rattle.std.specs.Borrow.{sem};
 ghost use Rattle.std.specs.Option.{option_copied, option_copied_mut, option_map};
 ghost use Rattle.std.specs.FinMap as map;
-ghost use Rattle.flow_table.specs.Key.{EndpointPair};
+ghost use Rattle.flow_table.specs.Key.{EndpointPair, key_between};
+ghost use Rattle.flow_table.specs.Pair.{is_ipv4_pair};
 ghost use Rattle.flow_table.specs.Table.{found, FindsAt};
 
+use crate::endpoint::Endpoint;
 use crate::hashing::KeyHashing;
 use crate::key::Key;
 use crate::pair::Pair;
@@ -125,14 +127,47 @@ impl<T> FlowTable<T> {
         ensures value { option_copied_mut result ≡ found self.old key.now }
     {
         match Pair::of(key) {
-            Some(pair) => match self.pairs.get_mut(&pair) {
-                Some(boxed) => Some(boxed.as_mut()),
-                None => None,
-            },
-            None => match self.flows.get_mut(key) {
-                Some(boxed) => Some(boxed.as_mut()),
-                None => None,
-            },
+            Some(pair) => self.pair_mut(&pair),
+            None => self.flow_mut(key),
+        }
+    }
+
+    /// The value of the key of two endpoints, in either order, to write, where that key is there. Of two IPv4 endpoints no key
+    /// is made.
+    #[inline(always)]
+    pub fn get_mut_between(&mut self, a: &Endpoint, b: &Endpoint) -> Option<&mut T>
+        ensures* writes_back { sem 𝓛 (LendsFlow T.row self.entry (key_between a.now b.now) result) }
+        ensures value { option_copied_mut result ≡ found self.old (key_between a.now b.now) }
+    {
+        match Pair::between(a, b) {
+            Some(pair) => self.pair_mut(&pair),
+            None => self.flow_mut(&Key::between(*a, *b)),
+        }
+    }
+
+    // The value of a pair of IPv4 endpoints, to write.
+    #[inline(always)]
+    fn pair_mut(&mut self, pair: &Pair) -> Option<&mut T>
+        requires ipv4 { is_ipv4_pair pair.now ≡ true }
+        ensures* writes_back { sem 𝓛 (LendsFlow T.row self.entry pair.now result) }
+        ensures value { option_copied_mut result ≡ found self.old pair.now }
+    {
+        match self.pairs.get_mut(pair) {
+            Some(boxed) => Some(boxed.as_mut()),
+            None => None,
+        }
+    }
+
+    // The value of another key, to write.
+    #[inline(always)]
+    fn flow_mut(&mut self, key: &Key) -> Option<&mut T>
+        requires other { is_ipv4_pair key.now ≡ false }
+        ensures* writes_back { sem 𝓛 (LendsFlow T.row self.entry key.now result) }
+        ensures value { option_copied_mut result ≡ found self.old key.now }
+    {
+        match self.flows.get_mut(key) {
+            Some(boxed) => Some(boxed.as_mut()),
+            None => None,
         }
     }
 
