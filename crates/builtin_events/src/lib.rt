@@ -25,5 +25,5 @@ pub use phases::{
 };
 pub use raise::{Raise, RaiseList};
 pub use raised::{EventList, Raised};
-pub use raising::{Raising, raising_at_receiver, raising_at_sender};
+pub use raising::{Raising, is_alone_at_sender, raising_at_receiver, raising_at_sender};
 pub use source::FactSource;

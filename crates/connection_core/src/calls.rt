@@ -49,6 +49,7 @@ impl<A: App> Terms<'_, A> {
     }
 
     // The callback of the registration with a number.
+    #[inline(always)]
     fn call_number(
         &self,
         raise_at: &RaiseAt,
@@ -100,6 +101,7 @@ impl<A: App> Terms<'_, A> {
     /// Calls what fires at one raise: at most as many as a private list has. Where one registration alone hears a root's
     /// event no filter is asked on the way to it, so that it is called without a walk. Before a walk room is taken for all
     /// changes that may be asked; it is still there at the next one.
+    #[inline(always)]
     pub(crate) fn call_at(
         &self,
         tree: &Tree,

@@ -13,9 +13,10 @@ use crate::in_force::InForce;
 use crate::ledger::{Ledger, Notes};
 use crate::rests::entry_at_rest;
 use crate::terms::Terms;
-use app_api::{App, Reason, Verdict};
-use builtin_events::{raising_at_receiver, raising_at_sender};
+use app_api::{App, PKT_IN, Reason, Verdict};
+use builtin_events::{FactSource, is_alone_at_sender, raising_at_receiver, raising_at_sender};
 use flow_socket::FlowSocket;
+use native_filters::Hook;
 use shared_forest::{Forests, Shared};
 use std::alloc::{AllocError, Global};
 
@@ -158,6 +159,21 @@ impl Flow {
         ledger.begin();
         let sent = self.socket.send(arrived.from, arrived.head, arrived.scale);
         let first = self.count == 0;
+        if is_alone_at_sender(first, &sent) {
+            let raise_at = RaiseAt {
+                number: arrived.number,
+                from: arrived.from,
+                hook: Hook::Snd,
+                event: PKT_IN,
+                source: FactSource::Sender {
+                    head: arrived.head,
+                    from: arrived.from,
+                    nth: self.count,
+                    sent: &sent,
+                },
+            };
+            return self.raise(terms, forests, &raise_at, notes, ledger);
+        }
         if !hears_sender(&terms.in_force, forests.tree_of(&self.forest), first, &sent) {
             return Ok(());
         }
