@@ -2,6 +2,7 @@
 use Rattle.std.specs.Prelude.{◌≡◌, ℕ, ◌≤◌, ◌&&◌, ◌||◌, ◌==◌, Bool, List, length, map, nat_le, nat_lt, IsTrue, Option, Some, None}
 use Rattle.std.specs.Borrow.{Bor}
 use Rattle.std.specs.List.{list_all}
+use Rattle.native_filters.specs.declared.facts.Hook.{Hook}
 use Rattle.app_api.specs.declared.app.Call.{Call}
 use Rattle.app_api.specs.declared.app.Tally.{Tally}
 use Rattle.app_api.specs.declared.reaction.Reaction.{Reaction}
@@ -43,9 +44,9 @@ pub record IsLawful (app : Meaning) : Type 0 where
   pub few : (t : Tally) → length (app.fields t) ≤ 256
   pub no_drop : (t : Tally) (call : Call) (rules : List Rule) → IsTrue (is_rcv call.hook) → (app.react t call rules).1.drop ≡ None
 
--- at the receiver a callback changes nothing that is kept, and asks nothing
-abbrev pub RestsAtReceiver : Meaning → Type 0
-RestsAtReceiver app = (t : Tally) (call : Call) (rules : List Rule) → IsTrue (is_rcv call.hook) → app.react t call rules ≡ (t, asks_nothing)
+-- at a hook a callback changes nothing that is kept, and asks nothing
+abbrev pub RestsAt : Meaning → Hook → Type 0
+RestsAt app hook = (t : Tally) (call : Call) (rules : List Rule) → call.hook ≡ hook → app.react t call rules ≡ (t, asks_nothing)
 
 -- a field as plain data
 abbrev pub field_shown : Option (Bor (List ℕ) × ℕ) → Option (List ℕ × ℕ)

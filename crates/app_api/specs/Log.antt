@@ -1,9 +1,10 @@
 -- The log application: it sees every packet, and asks nothing.
 use Rattle.std.specs.Prelude.{true, List, [], ◌∷◌, refl}
 use Rattle.std.proofs.Common.{lit≤}
+use Rattle.native_filters.specs.declared.facts.Hook.{Hook}
 use Rattle.native_filters.specs.declared.facts.Hook.TheVariants.{Snd, Rcv}
 use Rattle.app_api.specs.declared.registration.Reg.{Reg}
-use Rattle.app_api.specs.App.{Meaning, IsLawful, RestsAtReceiver}
+use Rattle.app_api.specs.App.{Meaning, IsLawful, RestsAt}
 use Rattle.app_api.specs.Events.{PKT_IN, ORPHAN, allows_hook}
 use Rattle.app_api.specs.Reg.{preset_reg}
 use Rattle.app_api.specs.Reaction.{asks_nothing}
@@ -31,6 +32,6 @@ log-lawful = record {
   no_drop = λ t call rules rcv. refl;
 }
 
-pub log-rests : RestsAtReceiver log
+pub log-rests : (hook : Hook) → RestsAt log hook
 unfolding log
-log-rests = λ t call rules rcv. refl
+log-rests hook = λ t call rules at. refl

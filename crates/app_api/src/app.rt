@@ -1,7 +1,7 @@
 //! Applications: what they answer at each callback.
 
 ghost use Rattle.std.specs.Prelude.{◌≡◌, IsTrue, slice_get};
-ghost use Rattle.app_api.specs.App.{Meaning, IsLawful, RestsAtReceiver, are_rules, field_shown};
+ghost use Rattle.app_api.specs.App.{Meaning, IsLawful, RestsAt, are_rules, field_shown};
 ghost use Rattle.app_api.specs.Reg.{reg_of};
 
 use crate::reaction::Reaction;
@@ -58,7 +58,7 @@ impl Tally {
     }
 }
 
-/// An application. No call takes memory. What one has to give is `meaning`, `lawful` and all calls but `rests_at_receiver`.
+/// An application. No call takes memory. What one has to give is `meaning`, `lawful` and all calls but `rests_at`.
 pub trait App {
     /// What it answers.
     ghost meaning: { Self → Meaning };
@@ -78,11 +78,12 @@ pub trait App {
         ensures tally { t.new ≡ ((meaning self.now).react t.old call.now rules.now).0 }
         ensures reaction { result ≡ ((meaning self.now).react t.old call.now rules.now).1 };
 
-    /// Whether it rests at the receiver: there none of its callbacks changes the tally or asks anything. So where nobody
-    /// is told of such a callback it has only to be counted. `false` is always an answer.
-    fn rests_at_receiver(&self) -> bool
-        ensures rests { IsTrue result → RestsAtReceiver (meaning self.now) }
+    /// Whether it rests at a side: there none of its callbacks changes the tally or asks anything. So such a callback has
+    /// only to be counted, and noted where callbacks are kept. `false` is always an answer.
+    fn rests_at(&self, hook: Hook) -> bool
+        ensures rests { IsTrue result → RestsAt (meaning self.now) hook }
     {
+        let _ = hook;
         false
     }
 

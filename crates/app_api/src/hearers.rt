@@ -1,11 +1,11 @@
 //! Who hears an event at a hook, and who hears each of the built-in events.
 
-ghost use Rattle.std.specs.Prelude.{◌≡◌, ◌<◌, ◌==◌, cond, false, length, slice_index_or, IsTrue, ℕ};
+ghost use Rattle.std.specs.Prelude.{◌≡◌, ◌<◌, ◌==◌, cond, false, length, slice_index_or, IfSome, IsTrue, ℕ};
 ghost use Rattle.app_api.specs.declared.hearers.Hearers.{Hearers};
 ghost use Rattle.app_api.specs.Events.{is_built_in};
-ghost use Rattle.app_api.specs.Hearers.{joined, deep, hearers_in, is_heard_in};
+ghost use Rattle.app_api.specs.Hearers.{joined, deep, hearers_in, is_heard_in, HearsAlone};
 
-use crate::events::{EVENTS, place_of};
+use crate::events::{END, EVENTS, PKT_IN, START, place_of};
 
 /// The registrations that hear a root's event at a hook, those under the root included.
 #[derive(Clone, Copy, Debug, PartialEq, Eq)]
@@ -86,6 +86,24 @@ impl Heard {
         ensures known { result ≡ false → IsTrue (is_built_in event) }
     {
         !matches!(self.get(event), Hearers::Nobody)
+    }
+
+    /// The number of the registration that alone hears packets, where there is one: it stands at `pkt_in`, and of what else
+    /// a packet may raise nothing is heard.
+    pub fn lone(&self) -> Option<u8>
+        ensures { IfSome result (λ number. HearsAlone self.now number) }
+    {
+        let mut event = START;
+        while event <= END {
+            if event != PKT_IN && self.is_heard(event) {
+                return None;
+            }
+            event += 1;
+        }
+        match self.get(PKT_IN) {
+            Hearers::One(number) => Some(number),
+            _ => None,
+        }
     }
 }
 

@@ -1,7 +1,7 @@
 //! The application that only logs.
 
 ghost use Rattle.std.specs.Prelude.{IsTrue};
-ghost use Rattle.app_api.specs.App.{RestsAtReceiver};
+ghost use Rattle.app_api.specs.App.{RestsAt};
 ghost use Rattle.app_api.specs.Log.{log, log-lawful, log-rests};
 
 use crate::app::{App, Call, Tally};
@@ -38,10 +38,11 @@ impl App for LogApp {
         Reaction::nothing()
     }
 
-    fn rests_at_receiver(&self) -> bool
-        ensures rests { IsTrue result → RestsAtReceiver log }
+    fn rests_at(&self, hook: Hook) -> bool
+        ensures rests { IsTrue result → RestsAt log hook }
         ensures yes { IsTrue result }
     {
+        let _ = hook;
         true
     }
 

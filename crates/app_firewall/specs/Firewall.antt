@@ -1,13 +1,13 @@
 -- The firewall: which presets it has, what a call changes and asks, and how its fields are named.
 use Rattle.std.specs.Prelude.{◌≡◌, ℕ, ◌+◌, ◌%◌, ◌^◌, ◌&&◌, ◌==◌, not, Bool, if◌then◌else◌, [], ◌∷◌, Some, None, IsTrue, refl, codes}
-use Rattle.std.proofs.Common.{lit≤}
+use Rattle.std.proofs.Common.{lit≤, ap}
 use Rattle.std.proofs.lemmas.Bool.{false≢true}
 use Rattle.native_filters.specs.declared.facts.Hook.TheVariants.{Snd, Rcv}
 use Rattle.app_api.specs.declared.app.Call.{Call}
 use Rattle.app_api.specs.declared.app.Tally.{Tally}
 use Rattle.app_api.specs.declared.reaction.Reaction.{Reaction}
 use Rattle.app_api.specs.declared.reaction.Reason.TheVariants as reason
-use Rattle.app_api.specs.App.{Meaning, IsLawful, RestsAtReceiver}
+use Rattle.app_api.specs.App.{Meaning, IsLawful, RestsAt}
 use Rattle.app_api.specs.Events.{is_snd, is_rcv, allows_hook}
 use Rattle.app_api.specs.Log.{log}
 use Rattle.app_api.specs.Reaction.{asks_nothing}
@@ -86,6 +86,6 @@ rests-at t call decided rcv =
       | Rcv ↦ λ _. refl
     ] rcv
 
-pub firewall-rests : RestsAtReceiver firewall
+pub firewall-rests : RestsAt firewall Rcv
 unfolding firewall
-firewall-rests = λ t call rules rcv. rests-at t call (decision rules call.facts) rcv
+firewall-rests = λ t call rules at. rests-at t call (decision rules call.facts) (ap is_rcv at)

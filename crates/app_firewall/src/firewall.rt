@@ -1,8 +1,8 @@
 //! The firewall as an application.
 
 ghost use Rattle.std.specs.Prelude.{◌≡◌, ◌&&◌, ◌==◌, IsTrue};
-ghost use Rattle.app_api.specs.App.{RestsAtReceiver};
-ghost use Rattle.app_api.specs.Events.{is_snd};
+ghost use Rattle.app_api.specs.App.{RestsAt};
+ghost use Rattle.app_api.specs.Events.{is_snd, is_rcv};
 ghost use Rattle.app_firewall.specs.Firewall.{firewall, firewall-lawful, firewall-rests, drops_by};
 
 use crate::decision::decide;
@@ -50,11 +50,11 @@ impl App for FirewallApp {
         }
     }
 
-    fn rests_at_receiver(&self) -> bool
-        ensures rests { IsTrue result → RestsAtReceiver firewall }
-        ensures yes { IsTrue result }
+    fn rests_at(&self, hook: Hook) -> bool
+        ensures rests { IsTrue result → RestsAt firewall hook }
+        ensures where { result ≡ is_rcv hook }
     {
-        true
+        hook == Hook::Rcv
     }
 
     fn field(&self, i: u8, t: &Tally) -> Option<(&str, u64)> {

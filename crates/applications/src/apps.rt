@@ -6,6 +6,7 @@ ghost use Rattle.applications.specs.Apps.{kind_named};
 use app_api::{App, Call, LogApp, Reaction, Reg, Rule, Tally};
 use app_firewall::FirewallApp;
 use app_traffic::{AcctApp, RexmitApp};
+use native_filters::Hook;
 
 /// The application that a run calls: each of its calls is the call of the application that bears the name. So all above is
 /// there once for all of them. `./mos --help` shows what stands at each.
@@ -76,12 +77,12 @@ impl App for AppKind {
         }
     }
 
-    fn rests_at_receiver(&self) -> bool {
+    fn rests_at(&self, hook: Hook) -> bool {
         match self {
-            AppKind::Log => LogApp.rests_at_receiver(),
-            AppKind::Acct => AcctApp.rests_at_receiver(),
-            AppKind::Rexmit => RexmitApp.rests_at_receiver(),
-            AppKind::Firewall => FirewallApp.rests_at_receiver(),
+            AppKind::Log => LogApp.rests_at(hook),
+            AppKind::Acct => AcctApp.rests_at(hook),
+            AppKind::Rexmit => RexmitApp.rests_at(hook),
+            AppKind::Firewall => FirewallApp.rests_at(hook),
         }
     }
 

@@ -1,11 +1,11 @@
 -- Not of the headline. Who hears a root's event at a hook: of the registrations on paths that begin with the event, those that have the hook.
-use Rattle.std.specs.Prelude.{◌≡◌, ℕ, ◌==◌, cond, Bool, IsTrue, List, [], ◌∷◌}
+use Rattle.std.specs.Prelude.{◌≡◌, ℕ, ◌==◌, cond, Bool, false, IsTrue, List, [], ◌∷◌}
 use Rattle.native_filters.specs.declared.facts.Hook.{Hook}
 use Rattle.app_api.specs.declared.hearers.Hearers.{Hearers}
 use Rattle.app_api.specs.declared.hearers.Hearers.TheVariants.{Nobody, One}
 use Rattle.app_api.specs.declared.hearers.Heard.{Heard}
-use Rattle.app_api.specs.Events.{is_built_in}
-use Rattle.app_api.specs.Hearers.{joined, deep, is_any, hearers_in}
+use Rattle.app_api.specs.Events.{PKT_IN, is_built_in}
+use Rattle.app_api.specs.Hearers.{joined, deep, is_any, is_of_packets, hearers_in}
 use Rattle.shared_forest.specs.declared.node.Slot.{Slot}
 use Rattle.shared_forest.specs.Key.{is_hook}
 use Rattle.shared_forest.specs.Listing.{Shown}
@@ -33,3 +33,8 @@ is_heard hook event shown = is_any (hearers_of hook event shown)
 -- for each of the built-in events who hears it at the hook
 abbrev pub AreHeard : Hook → Heard → List Shown → Type 0
 AreHeard hook heard shown = (event : ℕ) → IsTrue (is_built_in event) → hearers_in heard event ≡ hearers_of hook event shown
+
+-- the registration of a number alone hears packets at the hook: it stands at `pkt_in`, and nothing else that a packet may raise is heard
+pub record IsLone (hook : Hook) (number : ℕ) (shown : List Shown) : Type 0 where
+  pub one : hearers_of hook PKT_IN shown ≡ One number
+  pub others : (event : ℕ) → IsTrue (is_of_packets event) → (PKT_IN == event) ≡ false → is_heard hook event shown ≡ false

@@ -1,6 +1,6 @@
 //! A tree, as two flat lists.
 
-ghost use Rattle.std.specs.Prelude.{◌≡◌, ◌↔◌, false, IsTrue};
+ghost use Rattle.std.specs.Prelude.{◌≡◌, ◌↔◌, false, IfSome, IsTrue};
 
 use crate::heard::heard_at;
 use crate::node::{are_same_nodes, are_same_slots};
@@ -22,6 +22,10 @@ pub struct Tree {
     // Who hears at each hook. Both follow from the lists, so that equal lists are equal trees.
     at_sender: Heard,
     at_receiver: Heard,
+
+    // The number of the registration that alone hears packets at each hook, where there is one.
+    lone_at_sender: Option<u8>,
+    lone_at_receiver: Option<u8>,
 }
 
 impl Model for Tree {
@@ -32,20 +36,23 @@ impl Model for Tree {
     ghost use Rattle.native_filters.specs.declared.facts.Hook.TheVariants.{Snd, Rcv};
     ghost use Rattle.shared_forest.specs.Layout.{IsTree};
     ghost use Rattle.shared_forest.specs.Listing.{listing_of};
-    ghost use Rattle.shared_forest.specs.Heard.{AreHeard};
+    ghost use Rattle.shared_forest.specs.Heard.{AreHeard, IsLone};
+    ghost use Rattle.std.specs.Prelude.{IfSome};
 
     ghost view = { λ t. record { nodes = t.nodes.items; slots = t.slots.items } };
 
     ghost invariant = { λ t. IsTree t.nodes.items t.slots.items
         × AreHeard Snd t.at_sender (listing_of t.nodes.items t.slots.items)
-        × AreHeard Rcv t.at_receiver (listing_of t.nodes.items t.slots.items) };
+        × AreHeard Rcv t.at_receiver (listing_of t.nodes.items t.slots.items)
+        × IfSome t.lone_at_sender (λ number. IsLone Snd number (listing_of t.nodes.items t.slots.items))
+        × IfSome t.lone_at_receiver (λ number. IsLone Rcv number (listing_of t.nodes.items t.slots.items)) };
 }
 
 impl Tree {
     ghost use Rattle.shared_forest.specs.Layout.{IsTree};
     ghost use Rattle.shared_forest.specs.Listing.{listing};
     ghost use Rattle.app_api.specs.Events.{is_built_in};
-    ghost use Rattle.shared_forest.specs.Heard.{is_heard, AreHeard};
+    ghost use Rattle.shared_forest.specs.Heard.{is_heard, AreHeard, IsLone};
 
     /// The tree of these two lists.
     pub fn new(nodes: Vec<Node>, slots: Vec<Slot>) -> Tree
@@ -55,11 +62,15 @@ impl Tree {
     {
         let at_sender = heard_at(&nodes, &slots, Hook::Snd);
         let at_receiver = heard_at(&nodes, &slots, Hook::Rcv);
+        let lone_at_sender = at_sender.lone();
+        let lone_at_receiver = at_receiver.lone();
         Tree {
             nodes,
             slots,
             at_sender,
             at_receiver,
+            lone_at_sender,
+            lone_at_receiver,
         }
     }
 
@@ -88,6 +99,17 @@ impl Tree {
         match hook {
             Hook::Snd => &self.at_sender,
             Hook::Rcv => &self.at_receiver,
+        }
+    }
+
+    /// The number of the registration that alone hears packets at a hook, where there is one.
+    #[inline(always)]
+    pub fn lone(&self, hook: Hook) -> Option<u8>
+        ensures { IfSome result (λ number. IsLone hook number (listing self.now)) }
+    {
+        match hook {
+            Hook::Snd => self.lone_at_sender,
+            Hook::Rcv => self.lone_at_receiver,
         }
     }
 
