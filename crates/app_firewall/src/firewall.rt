@@ -52,7 +52,7 @@ impl App for FirewallApp {
 
     fn rests_at(&self, hook: Hook) -> bool
         ensures rests { IsTrue result → RestsAt firewall hook }
-        ensures where { result ≡ is_rcv hook }
+        ensures receiver { result ≡ is_rcv hook }
     {
         hook == Hook::Rcv
     }
