@@ -59,6 +59,16 @@ sender_makes app s keep others at tree number from head scale answer raises flow
     } in
     subst (λ l. R c (phase app s number from l c)) all (makes c under)
 
+-- one that failed before its phase
+pub sender_costs_none : (app : Meaning) (s : ControlState) (i : Option ℕ) (number : ℕ) (from : Side) (head : Head) (scale : Option ℕ) (h : History)
+    → InternsWithin i i h.altered (sender_phase app s number from head scale h).altered
+unfolding sender_phase
+sender_costs_none app s i number from head scale h =
+    let e = h.emulation in
+    let c = begin (sent from head scale e) h in
+    let raises = sender_raises head from h.count (eqb h.count 0) (sent_answer from head e) in
+    within-up i i h.altered h.altered (phase app s number from raises c).altered (phase_rises app s number from raises c) (within-same i h.altered)
+
 -- ---- the receiver's phase
 
 -- the same of the receiver's

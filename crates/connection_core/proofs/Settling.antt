@@ -170,7 +170,7 @@ raise_as P app s number n from side raise x num who is made =
 
 -- ---- the raises of a phase
 
-phase-append : (app : Meaning) (s : ControlState) (number : ℕ) (from : Side) (xs ys : List Raise) (c : PacketUnderWay)
+pub phase-append : (app : Meaning) (s : ControlState) (number : ℕ) (from : Side) (xs ys : List Raise) (c : PacketUnderWay)
     → phase app s number from (xs ++ ys) c ≡ phase app s number from ys (phase app s number from xs c)
 unfolding phase
 phase-append app s number from [] ys c = refl

@@ -158,6 +158,11 @@ impl Flow {
     {
         ledger.begin();
         let sent = self.socket.send(arrived.from, arrived.head, arrived.scale);
+        let tree = forests.tree_of(&self.forest);
+        if let Some(number) = terms.resting(tree, Hook::Snd) {
+            ledger.count(0);
+            return notes.keep_entry(terms.keep, entry_at_rest(arrived.number, Hook::Snd, number));
+        }
         let first = self.count == 0;
         if is_alone_at_sender(first, &sent) {
             let raise_at = RaiseAt {
@@ -174,7 +179,7 @@ impl Flow {
             };
             return self.raise(terms, forests, &raise_at, notes, ledger);
         }
-        if !hears_sender(&terms.in_force, forests.tree_of(&self.forest), first, &sent) {
+        if !hears_sender(&terms.in_force, tree, first, &sent) {
             return Ok(());
         }
         let raising = raising_at_sender(arrived.head, arrived.from, self.count, first, &sent);
@@ -213,12 +218,12 @@ impl Flow {
             .receive(arrived.from, arrived.head, arrived.payload)?;
         self.count += 1;
         let tree = forests.tree_of(&self.forest);
+        if let Some(number) = terms.resting(tree, Hook::Rcv) {
+            ledger.count(0);
+            return notes.keep_entry(terms.keep, entry_at_rest(arrived.number, Hook::Rcv, number));
+        }
         if !hears_receiver(&terms.in_force, tree, arrived.head, &got) {
             return Ok(());
-        }
-        if let Some(number) = terms.resting(tree) {
-            ledger.count(0);
-            return notes.keep_entry(terms.keep, entry_at_rest(arrived.number, number));
         }
         let phase = Phase {
             number: arrived.number,

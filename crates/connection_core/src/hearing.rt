@@ -1,7 +1,7 @@
 //! Raises that nobody hears: they call nothing, so no walk begins for them, and for a phase of such raises there are no
 //! facts.
 
-ghost use Rattle.std.specs.Prelude.{◌≡◌, [], ◌∷◌, false, ℕ, IsTrue};
+ghost use Rattle.std.specs.Prelude.{◌≡◌, [], ◌∷◌, false, ℕ, IfSome, IsTrue};
 ghost use Rattle.native_filters.specs.declared.facts.Facts.{Facts};
 ghost use Rattle.native_filters.specs.declared.facts.Hook.{Hook as HookOf};
 ghost use Rattle.packet_views.specs.declared.packet.Head.{Head as HeadOf};
@@ -16,7 +16,7 @@ ghost use Rattle.event_trees.specs.Private.{numbers_of};
 ghost use Rattle.forest_versions.specs.State.{ControlState};
 ghost use Rattle.connection_core.specs.InForce.{IsInForce};
 ghost use Rattle.connection_core.specs.Trees.{list_in_force, IsForestInForce};
-ghost use Rattle.connection_core.specs.Unheard.{CallsNothing, CallNothing, CallsOne};
+ghost use Rattle.connection_core.specs.Unheard.{CallsNothing, CallNothing, CallsOne, PacketsCallOne};
 
 use crate::in_force::InForce;
 use app_api::{Hearers, is_built_in};
@@ -57,6 +57,17 @@ pub(crate) fn hearers(in_force: &InForce, tree: &Tree, hook: Hook, event: u16) -
         return Hearers::More;
     }
     tree.heard(hook).get(event)
+}
+
+/// The number of the registration that packets call alone at a hook, where there is one.
+#[inline(always)]
+pub(crate) fn lone_hearer(in_force: &InForce, tree: &Tree, hook: Hook) -> Option<u8>
+    requires forest { IsForestInForce in_force.now tree.now }
+    ensures { IfSome result (λ number. (s : ControlState) → IsInForce in_force.now s
+        → PacketsCallOne s (list_in_force in_force.now tree.now) hook number) }
+{
+    raises_call_who_hears(in_force, tree);
+    tree.lone(hook)
 }
 
 /// Whether any raise of a packet's phase at its sender is heard.

@@ -6,11 +6,12 @@ use Rattle.connection_core.specs.Trees.{active_in, InternsWithin}
 use Rattle.connection_core.proofs.Errors.{on_err_always}
 use Rattle.connection_core.proofs.Phases.{receiver_makes, receiver_costs_none}
 use Rattle.connection_core.proofs.Unheard.{phase_silent}
-use Rattle.connection_core.proofs.Resting.{NotesOne, CountsOne, phase_rests}
+use Rattle.connection_core.proofs.Resting.{NotesOne, CountsOne, receiver_rests}
 use Rattle.connection_core.specs.Resting.{Rests, entry_at_rest}
 use Rattle.connection_core.specs.Unheard.{CallNothing}
 use Rattle.builtin_events.specs.Raises.{receiver_raises}
 use Rattle.shared_forest.specs.Lists.{TreeLists}
+use Rattle.native_filters.specs.declared.facts.Hook.TheVariants.{Rcv}
 use Rattle.std.proofs.Common.{◌∙◌, ap, refl, subst, sym}
 use Rattle.connection_core.proofs.flow.Flow.receive.Goals as goal
 
@@ -89,11 +90,11 @@ returns-in-Some-clause-stands g c =
           let interns = g.F.ForestView.interns c.args.forests.now in
           let arrived = c.args.arrived.now in
           let raises = receiver_raises arrived.head.now arrived.from c.args.self.now.count c.in_ok-got.got in
-          let rests = subst (λ (t : TreeLists). Rests app lent t c.in-Some.number) c.tree_of-tree.ensures c.in-Some.ensures in
+          let rests = subst (λ (t : TreeLists). Rests app lent t Rcv c.in-Some.number) c.tree_of-tree.ensures c.in-Some.ensures in
           let alone = rests.1 s force in
-          let noted : NotesOne keep arrived.number alone.0.number c.args.notes.now c.keep_entry.new.self = record {
+          let noted : NotesOne keep arrived.number Rcv alone.0.number c.args.notes.now c.keep_entry.new.self = record {
             tally = c.keep_entry.ensures.tally;
-            entries = entries ∙ ap (λ w. kept_with keep c.args.notes.now.entries w) (c.entry_at_rest.ensures ∙ ap (λ n. entry_at_rest arrived.number n) (sym alone.1.0));
+            entries = entries ∙ ap (λ w. kept_with keep c.args.notes.now.entries w) (c.entry_at_rest.ensures ∙ ap (λ n. entry_at_rest arrived.number Rcv n) (sym alone.1.0));
           } in
           let counts : CountsOne c.args.ledger.now c.count.new.self = record {
             callbacks = c.count.ensures.callbacks;
@@ -106,7 +107,7 @@ returns-in-Some-clause-stands g c =
                 c.in_ok-got.got raises c.args.self.now.socket c.receive.new.self c.args.notes.now c.args.ledger.now under_way
                 (λ before after. Reached keep others (active_in at tree) c.receive.new.self c.keep_entry.new.self c.count.new.self interns interns before.altered after)
                 u c.in_ok-got.ensures.stands c.in_ok-got.ensures.answer refl
-                (phase_rests app rests.0 s keep others (active_in at tree) interns arrived.number arrived.from arrived.head.now c.args.self.now.count c.in_ok-got.got
+                (receiver_rests app rests.0 s keep others (active_in at tree) interns arrived.number arrived.from arrived.head.now c.args.self.now.count c.in_ok-got.got
                 alone.0 alone.1.1 c.receive.new.self c.args.notes.now c.keep_entry.new.self c.args.ledger.now c.count.new.self noted counts c.requires.sent.quiet);
           };
       asked = ap (λ v. v.items) c.count.ensures.changes ∙ c.requires.sent.quiet;

@@ -1,14 +1,17 @@
 use Rattle.std.proofs.lemmas.Result.{on_ok_weaker, on_err_weaker}
 use Rattle.builtin_events.specs.Source.{raises_in}
 use Rattle.connection_core.specs.InForce.{registered}
-use Rattle.connection_core.specs.Standing.{Reached}
+use Rattle.connection_core.specs.Standing.{Reached, kept_with}
 use Rattle.connection_core.specs.Trees.{active_in, InternsWithin}
-use Rattle.connection_core.proofs.Phases.{sender_makes}
+use Rattle.connection_core.proofs.Phases.{sender_makes, sender_costs_none}
 use Rattle.connection_core.proofs.Unheard.{phase_silent}
+use Rattle.connection_core.proofs.Errors.{on_err_always}
+use Rattle.connection_core.proofs.Resting.{NotesOne, CountsOne, sender_rests}
+use Rattle.connection_core.specs.Resting.{Rests, entry_at_rest}
 use Rattle.connection_core.specs.Unheard.{CallNothing}
 use Rattle.builtin_events.specs.Raises.{sender_raises}
 use Rattle.shared_forest.specs.Lists.{TreeLists}
-use Rattle.std.proofs.Common.{eqb, [], ◌∷◌, refl, subst, sym}
+use Rattle.std.proofs.Common.{eqb, [], ◌∷◌, ◌∙◌, ap, refl, subst, sym}
 use Rattle.native_filters.specs.declared.facts.Facts.{Facts}
 use Rattle.native_filters.specs.declared.facts.Hook.TheVariants.{Snd}
 use Rattle.builtin_events.specs.declared.raise.Raise.{Raise}
@@ -54,7 +57,7 @@ returns-then-not-hears_sender-clause-stands g c = λ s others h force is.
     let interns = g.F.ForestView.interns c.args.forests.now in
     let arrived = c.args.arrived.now in
     let raises = sender_raises arrived.head.now arrived.from c.args.self.now.count (eqb c.args.self.now.count 0) c.send-sent.result in
-    let silent = subst (λ (t : TreeLists). CallNothing s (active_in at t) raises) c.tree_of.ensures
+    let silent = subst (λ (t : TreeLists). CallNothing s (active_in at t) raises) c.tree_of-tree.ensures
     (c.hears_sender.ensures c.if-not-hears_sender.true s arrived.head.now arrived.from c.args.self.now.count force) in
     sender_makes app s keep others at tree arrived.number arrived.from arrived.head.now arrived.scale
     c.send-sent.result raises c.args.self.now c.send-sent.new.self c.args.notes.now c.args.ledger.now c.begin.new.self h
@@ -93,3 +96,40 @@ returns-then-is_alone_at_sender-clause-failed g c =
     is c.send-sent.ensures.stands c.send-sent.ensures.answer
     (sym (c.is_alone_at_sender.ensures c.if-is_alone_at_sender.true arrived.head.now arrived.from c.args.self.now.count)) c.begin.ensures ((costs s force).interned others))
     c.raise.ensures.failed
+
+-- one thing is called of it, and that does nothing
+pub returns-in-Some-clause-stands : goal.returns-in-Some-clause-stands
+returns-in-Some-clause-stands g c =
+    on_ok_weaker c.keep_entry.result (λ entries. λ s others h force is.
+    let app = g.A.App.meaning c.args.terms.now.app.now in
+    let lent = c.args.terms.now.in_force in
+    let at = registered lent in
+    let keep = c.args.terms.now.keep in
+    let tree = g.F.ForestView.content c.args.forests.now c.args.self.now.forest in
+    let interns = g.F.ForestView.interns c.args.forests.now in
+    let arrived = c.args.arrived.now in
+    let first = eqb c.args.self.now.count 0 in
+    let rests = subst (λ (t : TreeLists). Rests app lent t Snd c.in-Some.number) c.tree_of-tree.ensures c.in-Some.ensures in
+    let alone = rests.1 s force in
+    let noted : NotesOne keep arrived.number Snd alone.0.number c.args.notes.now c.keep_entry.new.self = record {
+      tally = c.keep_entry.ensures.tally;
+      entries = entries ∙ ap (λ w. kept_with keep c.args.notes.now.entries w) (c.entry_at_rest.ensures ∙ ap (λ n. entry_at_rest arrived.number Snd n) (sym alone.1.0));
+    } in
+    let counts : CountsOne c.begin.new.self c.count.new.self = record {
+      callbacks = c.count.ensures.callbacks;
+      weight = c.count.ensures.weight;
+      changes = c.count.ensures.changes;
+      drop = c.count.ensures.drop;
+    } in
+    sender_makes app s keep others at tree arrived.number arrived.from arrived.head.now arrived.scale
+    c.send-sent.result (sender_raises arrived.head.now arrived.from c.args.self.now.count first c.send-sent.result) c.args.self.now c.send-sent.new.self c.args.notes.now c.args.ledger.now c.begin.new.self h
+    (λ before after. Reached keep others (active_in at tree) c.send-sent.new.self c.keep_entry.new.self c.count.new.self interns interns before.altered after)
+    is c.send-sent.ensures.stands c.send-sent.ensures.answer refl c.begin.ensures
+    (sender_rests app rests.0 s keep others (active_in at tree) interns arrived.number arrived.from arrived.head.now c.args.self.now.count first c.send-sent.result
+    alone.0 alone.1.1 c.send-sent.new.self c.args.notes.now c.keep_entry.new.self c.begin.new.self c.count.new.self noted counts c.begin.ensures.changes))
+    c.keep_entry.ensures.entries
+
+pub returns-in-Some-clause-failed : goal.returns-in-Some-clause-failed
+returns-in-Some-clause-failed g c = on_err_always c.keep_entry.result (λ s others h force is.
+    sender_costs_none (g.A.App.meaning c.args.terms.now.app.now) s (g.F.ForestView.interns c.args.forests.now) c.args.arrived.now.number c.args.arrived.now.from
+    c.args.arrived.now.head.now c.args.arrived.now.scale h)

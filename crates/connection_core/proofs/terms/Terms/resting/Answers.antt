@@ -1,6 +1,4 @@
-use Rattle.std.proofs.Common.{◌≡◌, Some, sym, ap, ◌∙◌}
-use Rattle.native_filters.specs.declared.facts.Hook.TheVariants.{Rcv}
-use Rattle.event_trees.specs.Walk.{called}
+use Rattle.std.proofs.Common.{◌≡◌, Some, sym}
 use Rattle.connection_core.specs.InForce.{registered}
 use Rattle.connection_core.specs.Trees.{active_in}
 use Rattle.connection_core.proofs.Resting.{calls_alone}
@@ -9,15 +7,14 @@ use Rattle.connection_core.proofs.terms.Terms.resting.Goals as goal
 pub returns-in-Some-reg_at : goal.returns-in-Some-reg_at
 returns-in-Some-reg_at g c =
     let lent = c.args.self.now.in_force in
-    let here : registered lent c.in-Some.number ≡ Some c.in-Some-reg_at.reg.now = sym c.in-Some-reg_at.ensures.reg in
-    let one = ap (called Rcv) (sym c.slots.ensures.slots) ∙ c.in-Some.ensures in (
-      c.rests_at_receiver.ensures.rests c.if-not-rests_at_receiver.false,
+    let here : registered lent c.in-Some.number ≡ Some c.in-Some-reg_at.reg.now = sym c.in-Some-reg_at.ensures.reg in (
+      c.rests_at.ensures.rests c.if-not-rests_at.false,
       λ s force. (
         c.in-Some-reg_at.reg.now,
         (
           c.in-Some-reg_at.ensures.number,
-          calls_alone s force.sound.defs (registered lent) (active_in (registered lent) c.args.tree.now) c.args.tree.now.slots c.in-Some.number c.in-Some-reg_at.reg.now
-              c.requires.forest.slots c.requires.forest.known one here (c.is_plain.ensures c.if-is_plain.true),
+          calls_alone s (registered lent) (active_in (registered lent) c.args.tree.now) c.args.hook c.in-Some.number c.in-Some-reg_at.reg.now
+              c.requires.forest.known (c.in-Some.ensures s force) here (c.is_plain.ensures c.if-is_plain.true),
         ),
       ),
     )
