@@ -126,11 +126,11 @@ impl<F: Forests + Drop> Records<F> {
         ensures failed { OnErr result
             (CostsToAdd (taking A.meaning terms.now) self.old self.new (Tcp (seen segment.now))) }
     {
-        let key = key_between(segment.from, segment.to);
-        if let Some(step) = self.follow(terms, &key, segment)? {
+        if let Some(step) = self.follow(terms, segment)? {
             return Ok(step.verdict);
         }
         self.next = terms.number + 1;
+        let key = key_between(segment.from, segment.to);
         self.end_idle(terms, &key)?;
         if is_opening(segment) {
             self.begin(terms, key, segment)

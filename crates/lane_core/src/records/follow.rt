@@ -20,9 +20,9 @@ use crate::terms::PacketTerms;
 use crate::under_way::RecordUnderWay;
 use app_api::App;
 use connection_core::{Arrived, InForce, Ledger, Step, Terms};
-use flow_table::{FlowTable, Key};
+use flow_table::FlowTable;
 use forest_versions::Master;
-use ip6_views::SightTcp;
+use ip6_views::{SightTcp, key_between};
 use shared_forest::Forests;
 use std::alloc::AllocError;
 
@@ -74,15 +74,16 @@ pub(crate) fn step_one<A: App, F: Forests>(
     Ok(step)
 }
 
-// Takes the connection of a key from the table where it is over.
-fn settle(connections: &mut FlowTable<Connection>, key: &Key, over: bool)
-    ensures left { IsPutWhere over connections.old connections.new key.now None }
+// Takes the connection of a segment from the table where it is over. For that alone its key is made.
+#[inline(always)]
+fn settle(connections: &mut FlowTable<Connection>, segment: &SightTcp<'_>, over: bool)
+    ensures left { IsPutWhere over connections.old connections.new (key_of_segment (seen segment.now)) None }
     ensures fewer { map.len connections.new ≤ map.len connections.old }
 {
     if !over {
         return;
     }
-    connections.forget(key);
+    connections.forget(&key_between(segment.from, segment.to));
 }
 
 impl<F: Forests + Drop> Records<F> {
@@ -91,18 +92,18 @@ impl<F: Forests + Drop> Records<F> {
     pub(crate) fn follow<A: App>(
         &mut self,
         terms: &PacketTerms<'_, A>,
-        key: &Key,
         segment: &SightTcp<'_>,
     ) -> Result<Option<Step>, AllocError>
-        requires key { key.now ≡ key_of_segment (seen segment.now) }
         requires comes { MayCome terms.now.number self.old }
         ensures none { result ≡ Ok None
-            → IsGone self.old.master terms.now.moment (found self.old.connections key.now) × (self.new ≡ self.old) }
+            → IsGone self.old.master terms.now.moment (found self.old.connections (key_of_segment (seen segment.now)))
+            × (self.new ≡ self.old) }
         ensures some { IfOk result (λ taken. IfSome taken (λ step.
             Follows (taking A.meaning terms.now) self.old self.new (seen segment.now) step)) }
         ensures failed { OnErr result (Costs (taking A.meaning terms.now) self.old self.new (seen segment.now)) }
     {
-        let Some(conn) = self.connections.get_mut(key) else {
+        let found = self.connections.get_mut_between(&segment.from, &segment.to);
+        let Some(conn) = found else {
             return Ok(None);
         };
         if was_idle(&self.master, conn, terms.moment) {
@@ -119,7 +120,7 @@ impl<F: Forests + Drop> Records<F> {
             &mut self.ledger,
             segment,
         )?;
-        settle(&mut self.connections, key, step.over);
+        settle(&mut self.connections, segment, step.over);
         Ok(Some(step))
     }
 }

@@ -35,7 +35,8 @@ returns-in_err-end_idle-clause-failed g c =
     let key_is = c.key_between-key.ensures.key in
     let segment = seen c.args.segment.now in
     let none = c.in_ok-step.ensures.none (ap Ok c.in_default.is) in
-    let gone = subst (λ r. IsGone r.master t.moment (found r.connections key)) (sym none.1) none.0 in
+    let still = subst (λ k. IsGone c.args.self.now.master t.moment (found c.args.self.now.connections k)) (sym key_is) none.0 in
+    let gone = subst (λ r. IsGone r.master t.moment (found r.connections key)) (sym none.1) still in
     let l = c.end_idle.ensures.left in
     let left : Leaves met mid = record { places = l.places; master = l.master; forests = l.forests; dropped = l.dropped; callbacks = l.callbacks; weight = l.weight } in
     on_err_always c.from_residual-in_err-end_idle.result
@@ -50,7 +51,8 @@ returns-then-is_opening-clause-stands g c =
     let key_is = c.key_between-key.ensures.key in
     let segment = seen c.args.segment.now in
     let none = c.in_ok-step.ensures.none (ap Ok c.in_default.is) in
-    let gone = subst (λ r. IsGone r.master t.moment (found r.connections key)) (sym none.1) none.0 in
+    let still = subst (λ k. IsGone c.args.self.now.master t.moment (found c.args.self.now.connections k)) (sym key_is) none.0 in
+    let gone = subst (λ r. IsGone r.master t.moment (found r.connections key)) (sym none.1) still in
     let l = c.end_idle.ensures.left in
     let left : Leaves met mid = record { places = l.places; master = l.master; forests = l.forests; dropped = l.dropped; callbacks = l.callbacks; weight = l.weight } in
     let e = c.in_ok-end_idle.ensures.stands in
@@ -68,7 +70,8 @@ returns-then-is_opening-clause-failed g c =
     let key_is = c.key_between-key.ensures.key in
     let segment = seen c.args.segment.now in
     let none = c.in_ok-step.ensures.none (ap Ok c.in_default.is) in
-    let gone = subst (λ r. IsGone r.master t.moment (found r.connections key)) (sym none.1) none.0 in
+    let still = subst (λ k. IsGone c.args.self.now.master t.moment (found c.args.self.now.connections k)) (sym key_is) none.0 in
+    let gone = subst (λ r. IsGone r.master t.moment (found r.connections key)) (sym none.1) still in
     let l = c.end_idle.ensures.left in
     let left : Leaves met mid = record { places = l.places; master = l.master; forests = l.forests; dropped = l.dropped; callbacks = l.callbacks; weight = l.weight } in
     let e = c.in_ok-end_idle.ensures.stands in
@@ -86,7 +89,8 @@ returns-else-is_opening-clause-stands g c =
     let key_is = c.key_between-key.ensures.key in
     let segment = seen c.args.segment.now in
     let none = c.in_ok-step.ensures.none (ap Ok c.in_default.is) in
-    let gone = subst (λ r. IsGone r.master t.moment (found r.connections key)) (sym none.1) none.0 in
+    let still = subst (λ k. IsGone c.args.self.now.master t.moment (found c.args.self.now.connections k)) (sym key_is) none.0 in
+    let gone = subst (λ r. IsGone r.master t.moment (found r.connections key)) (sym none.1) still in
     let l = c.end_idle.ensures.left in
     let left : Leaves met mid = record { places = l.places; master = l.master; forests = l.forests; dropped = l.dropped; callbacks = l.callbacks; weight = l.weight } in
     let e = c.in_ok-end_idle.ensures.stands in
@@ -107,7 +111,8 @@ returns-else-is_opening-clause-failed g c =
     let key_is = c.key_between-key.ensures.key in
     let segment = seen c.args.segment.now in
     let none = c.in_ok-step.ensures.none (ap Ok c.in_default.is) in
-    let gone = subst (λ r. IsGone r.master t.moment (found r.connections key)) (sym none.1) none.0 in
+    let still = subst (λ k. IsGone c.args.self.now.master t.moment (found c.args.self.now.connections k)) (sym key_is) none.0 in
+    let gone = subst (λ r. IsGone r.master t.moment (found r.connections key)) (sym none.1) still in
     let l = c.end_idle.ensures.left in
     let left : Leaves met mid = record { places = l.places; master = l.master; forests = l.forests; dropped = l.dropped; callbacks = l.callbacks; weight = l.weight } in
     let e = c.in_ok-end_idle.ensures.stands in
@@ -156,3 +161,11 @@ orphan-requires g c =
     record {
       come = has_come met mid c.args.terms.now.number (let rising = c.requires.comes.rising in omega (arith, rising, next)) c.end_idle.ensures.next left.places left.callbacks left.weight;
     }
+
+pub end_idle-requires : goal.end_idle-requires
+end_idle-requires g c =
+    let t = taking g.A.App.meaning c.args.terms.now in
+    let key = c.key_between-key.result in
+    let none = c.in_ok-step.ensures.none (ap Ok c.in_default.is) in
+    let still = subst (λ k. IsGone c.args.self.now.master t.moment (found c.args.self.now.connections k)) (sym c.key_between-key.ensures.key) none.0 in
+    record { gone = subst (λ r. IsGone r.master t.moment (found r.connections key)) (sym none.1) still }
