@@ -115,10 +115,11 @@ pub(crate) fn flush<R: Wait, L: Recorder + Drop, G: Gate>(
         → IsInput L.Recorder (commands_of context.now.script.now) begin packets input.new }
     ensures closed { input.new.unsent ≡ [] }
 {
-    let unsent = replace(&mut input.unsent, fresh);
-    if unsent.len() > 0 {
-        send_batch(context, input, Batch::Flat(unsent));
+    if input.unsent.len() == 0 {
+        return;
     }
+    let unsent = replace(&mut input.unsent, fresh);
+    send_batch(context, input, Batch::Flat(unsent));
 }
 
 /// Sends a packet to a lane, behind what is unsent for it, as `flush` does.
@@ -133,9 +134,7 @@ pub(crate) fn send_to<R: Wait, L: Recorder + Drop, G: Gate>(
         → IsInput L.Recorder (commands_of context.now.script.now) begin packets input.old
         → IsInput L.Recorder (commands_of context.now.script.now) begin (packets ++ packet ∷ []) input.new }
 {
-    if input.unsent.len() > 0 {
-        flush(context, input, FlatBatch::new(context.alloc));
-    }
+    flush(context, input, FlatBatch::new(context.alloc));
     send_batch(context, input, Batch::Single(packet));
 }
 
