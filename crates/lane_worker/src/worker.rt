@@ -26,8 +26,11 @@ use std::alloc::Global;
 use std::sync::Wait;
 use std::sync::atomic::{AtomicBool, Ordering};
 
-/// After so many turns, each with all packets of a batch, a worker keeps memory at hand anew: what it had may be used up.
-const TURNS: u32 = 64;
+/// After about so many packets a worker keeps memory at hand anew: what it had may be used up.
+const PACKETS_AT_HAND: u32 = 4096;
+
+/// About so many packets a turn has: all of a batch. Where answers are waited for, each packet is a batch of its own.
+const PACKETS_IN_TURN: u32 = 64;
 
 /// What one thread owns: a lane, and its ends of the rings.
 #[derive(Drop)]
@@ -96,9 +99,10 @@ pub fn work_in<R: Wait, L: Recorder + Drop, G: Gate>(
 {
     let mut w = w;
     let mut backoff = backoff_of(&w);
+    let between = turns_at_hand(&w);
     let mut turns: u32 = 0;
     for _ in context.rt.forever() {
-        if turns % TURNS == 0 {
+        if turns % between == 0 {
             keep_at_hand(context.alloc);
         }
         turns = turns.wrapping_add(1);
@@ -110,6 +114,17 @@ pub fn work_in<R: Wait, L: Recorder + Drop, G: Gate>(
         backoff.looked(context.rt, found);
     }
     unreachable!()
+}
+
+// After how many turns a worker keeps memory at hand anew.
+fn turns_at_hand<L: Recorder + Drop>(w: &Worker<L>) -> u32
+    ensures some { 1 ≤ result }
+{
+    if w.answers.is_some() {
+        PACKETS_AT_HAND
+    } else {
+        PACKETS_AT_HAND / PACKETS_IN_TURN
+    }
 }
 
 // How a worker waits for packets. Where its answers are waited for, it stays awake for longer.

@@ -23,7 +23,7 @@ use Rattle.lane_worker.specs.Worked.{IsReady, Worked}
 use Rattle.worker_pool.specs.Sent.{sent_as, packets_from, lane_of, dealt}
 use Rattle.worker_pool.specs.Inputs.{IsInput, AreInputs}
 use Rattle.lane_worker.proofs.Rings.{SameRx-refl}
-use Rattle.lane_worker.proofs.Beside.{ends_after, none_left}
+use Rattle.lane_worker.proofs.Beside.{ends_after}
 use Rattle.lane_worker.proofs.Composed.{worked_two}
 
 -- ---- the packets of one frame more
@@ -106,10 +106,6 @@ module _ {L : Type 0} (g : Ghosts L) (script : List Command) (begin : Worker L) 
     sent_are = ap (λ l. packets_in (sent input.packets) ++ l) same ∙ p.sent_are;
     placed = p.placed;
   }
-
-  -- none was unsent
-  pub none_unsent : (input : LaneInput L) (rest : List Packet) → rest ≡ [] → length input.unsent ≡ 0 → IsInput g script begin packets input → IsInput g script begin packets (record input { unsent = rest })
-  none_unsent input rest none count p = same_unsent input rest (none ∙ sym (none_left input.unsent count)) p
 
   -- nothing was sent
   pub sent_none : (input : LaneInput L) (tx : RingTx Batch) → SameTx input.packets tx → sent tx ≡ sent input.packets → IsInput g script begin packets input

@@ -108,7 +108,13 @@ fn join_control<R: Threads>(rt: &R, control: Option<JoinHandle<()>>) {
     }
 }
 
-// Starts the thread in which a worker works until its flag is raised.
+// Whether a worker works in the thread that deals the packets. That of lane 0 does where answers are waited for: each packet is
+// then taken while it is near, and the thread that waits for answers works in the meantime.
+fn works_here<L: Recorder + Drop>(w: &Worker<L>) -> bool {
+    w.number == 0 && w.answers.is_some()
+}
+
+// Starts the thread in which a worker works until its flag is raised; one that works here is begun, and its flag is raised.
 fn take_on<'s, E: 's, L: Recorder + Drop + Send + 's, D: WorkerRunner<L> + Sync>(
     scope: &Scope<'s, E>,
     context: &'s D,
@@ -122,6 +128,10 @@ fn take_on<'s, E: 's, L: Recorder + Drop + Send + 's, D: WorkerRunner<L> + Sync>
     requires lawful { IsTrue (are_lawful (start (L.app w.lane).presets) (D.commands context.now)) }
     ensures placed { IsPlaced L.Recorder (commands_of script.now) w result }
 {
+    if works_here(&w) {
+        stop.store(true, Ordering::SeqCst);
+        return WorkerPlace::Inline(context.run_worker(w, stop));
+    }
     let promise = Works {
         start: Snapshot::of(&w),
         script: Snapshot::of(script),
@@ -298,7 +308,7 @@ fn run_lent_feed<
 
 /// Runs a team over the packets that a feed sends: each packet is taken by the worker of its lane, and each of the
 /// script's commands is told to all. Answers what the feed ended with, and the workers. A lane for which no thread
-/// can be started is run in this one, and where the thread of the commands can't be started, they are told first.
+/// can be started is run in this one, as lane 0 is where answers are waited for, and where the thread of the commands can't be started, they are told first.
 ///
 /// An error is want of memory, before the feed has begun; it is as it was then. The context's `failed` is raised where a
 /// lane fails.

@@ -34,7 +34,7 @@ pub struct LaneInput<L: Recorder + Drop> {
 }
 
 // Has a worker that is in this thread take one batch out of its ring. Whether it did.
-fn make_room<R: Wait, L: Recorder + Drop, G: Gate>(
+fn take_turn_here<R: Wait, L: Recorder + Drop, G: Gate>(
     context: &WorkerContext<'_, R, G>,
     input: &mut LaneInput<L>,
 ) -> bool
@@ -64,13 +64,13 @@ pub fn take_turns<R: Wait, L: Recorder + Drop, G: Gate>(
 {
     let mut took = false;
     for lane in 0..inputs.len() {
-        took |= make_room(context, &mut inputs[lane]);
+        took |= take_turn_here(context, &mut inputs[lane]);
     }
     took
 }
 
-// Sends a batch to a lane for which no packet is unsent. Where its ring has no room, a worker that is in this thread works,
-// and one that is in its own is waited for.
+// Sends a batch to a lane for which no packet is unsent. A worker that is in this thread takes it at once, while its packets
+// are near; one that is in its own is waited for where its ring has no room.
 fn send_batch<R: Wait, L: Recorder + Drop, G: Gate>(
     context: &WorkerContext<'_, R, G>,
     input: &mut LaneInput<L>,
@@ -88,17 +88,20 @@ fn send_batch<R: Wait, L: Recorder + Drop, G: Gate>(
     let mut backoff = Backoff::eager();
     for _ in context.rt.forever() {
         match input.packets.send(batch) {
-            Ok(()) => return,
+            Ok(()) => {
+                take_turn_here(context, input);
+                return;
+            }
             Err(back) => batch = back,
         }
-        let made = make_room(context, input);
-        backoff.looked(context.rt, made);
+        let took = take_turn_here(context, input);
+        backoff.looked(context.rt, took);
     }
     unreachable!()
 }
 
-/// Sends the packets that are unsent for a lane. Where its ring has no room, a worker that is in this thread works, and one
-/// that is in its own is waited for. `fresh` is a batch of no packets, into which the next ones go.
+/// Sends the packets that are unsent for a lane. A worker that is in this thread takes them at once, and one that is in its own
+/// is waited for where its ring has no room. `fresh` is a batch of no packets, into which the next ones go.
 pub(crate) fn flush<R: Wait, L: Recorder + Drop, G: Gate>(
     context: &WorkerContext<'_, R, G>,
     input: &mut LaneInput<L>,
@@ -112,10 +115,11 @@ pub(crate) fn flush<R: Wait, L: Recorder + Drop, G: Gate>(
         → IsInput L.Recorder (commands_of context.now.script.now) begin packets input.new }
     ensures closed { input.new.unsent ≡ [] }
 {
-    let unsent = replace(&mut input.unsent, fresh);
-    if unsent.len() > 0 {
-        send_batch(context, input, Batch::Flat(unsent));
+    if input.unsent.len() == 0 {
+        return;
     }
+    let unsent = replace(&mut input.unsent, fresh);
+    send_batch(context, input, Batch::Flat(unsent));
 }
 
 /// Sends a packet to a lane, behind what is unsent for it, as `flush` does.

@@ -1,4 +1,4 @@
-//! Where a worker is: in a thread of its own, or in the one that called, where no other could be started.
+//! Where a worker is: in a thread of its own, or in the one that called.
 
 ghost use Rattle.std.specs.Prelude.{◌≡◌};
 ghost use Rattle.control_script.specs.Order.{commands_of};
@@ -32,7 +32,7 @@ impl<L: Recorder + Drop> Promise<Worker<L>> for Works<L> {
 pub(crate) enum WorkerPlace<L: Recorder + Drop> {
     /// In a thread of its own.
     Thread(PromisedHandle<Worker<L>, Works<L>>),
-    /// In this thread, since none could be started for it: it works where it is asked to.
+    /// In this thread: it works where it is asked to.
     Inline(Worker<L>),
 }
 

@@ -3,7 +3,7 @@ use Rattle.control_script.specs.Order.{commands_of}
 use Rattle.worker_pool.specs.declared.team.worker_place.WorkerPlace.{WorkerPlace}
 use Rattle.worker_pool.specs.Inputs.{IsInput}
 use Rattle.worker_pool.proofs.Inputs.{inline_worked}
-use Rattle.worker_pool.proofs.team.lane_input.make_room.Goals as goal
+use Rattle.worker_pool.proofs.team.lane_input.take_turn_here.Goals as goal
 
 pub returns-in-Inline-clause-input : goal.returns-in-Inline-clause-input
 returns-in-Inline-clause-input g c = λ begin packets p.
