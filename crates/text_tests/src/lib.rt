@@ -1,6 +1,7 @@
 //! Tests of bytes and texts, by public calls alone: sources, sinks and shelves (`memory`, `adapters`, `files`, `gathering`,
-//! `plain`), captures (`captures`, `made`, `pcapng`, `pcapng_refusals`), filters (`filters`), reports (`records`, `reports`,
-//! `refusals`), the words of the command line (`settings`), and types that threads hand over or share (`threads`).
+//! `plain`), captures (`captures`, `made`, `pcapng`, `pcapng_at_hand`, `pcapng_refusals`), filters (`filters`), reports
+//! (`records`, `reports`, `refusals`), the words of the command line (`settings`), and types that threads hand over or share
+//! (`threads`).
 //!
 //! Crates tested: `mos_bytes`, `pcap_source`, `pcapng_source`, `capture_maker`, `filter_lang`, `report_text`, `words`.
 //! Begin with the table of rows in the module of the subject.
@@ -22,6 +23,8 @@ mod made;
 mod memory;
 #[cfg(test)]
 mod pcapng;
+#[cfg(test)]
+mod pcapng_at_hand;
 #[cfg(test)]
 mod pcapng_refusals;
 #[cfg(test)]

@@ -163,14 +163,14 @@ pub(crate) fn gives(
 // ---- files that are cut
 
 // A block of another kind, and a simple packet of three bytes.
-const OTHER: &[Part] = &[
+pub(crate) const OTHER: &[Part] = &[
     Four(0xbad),
     Four(20),
     Bytes(&[1, 2, 3, 4, 5, 6, 7, 8]),
     Four(20),
 ];
 
-const SIMPLE: &[Part] = &[Four(3), Four(20), Four(3), Bytes(&[4, 5, 6, 0]), Four(20)];
+pub(crate) const SIMPLE: &[Part] = &[Four(3), Four(20), Four(3), Bytes(&[4, 5, 6, 0]), Four(20)];
 
 const SIMPLE_RECORD: &[u8] = &[0, 0, 0, 0, 0, 0, 0, 0, 0, 0, 0, 3, 0, 0, 0, 3, 4, 5, 6];
 
@@ -405,7 +405,7 @@ const TIMES: &[(&str, &[Part], u32, u32)] = &[
 ];
 
 // An empty packet of sixty bytes at the time 5 * 2^48 + 7.
-const TIMED: &[Part] = &[
+pub(crate) const TIMED: &[Part] = &[
     Four(6),
     Four(32),
     Four(0),
