@@ -1,6 +1,6 @@
 //! The text of some records, made in memory.
 
-ghost use Rattle.std.specs.Prelude.{◌≡◌, ◌++◌, [], true, IsTrue, MatchBool};
+ghost use Rattle.std.specs.Prelude.{◌≡◌, ◌≤◌, ◌++◌, [], true, length, IsTrue, MatchBool};
 ghost use Rattle.lane_core.specs.End.{ended};
 ghost use Rattle.report_text.specs.Ranges.{record_fits};
 ghost use Rattle.report_text.specs.Report.{record_text};
@@ -20,6 +20,7 @@ pub(crate) const LONGEST: usize = 1_048_576;
 struct TextSink {
     text: Vec<u8>,
     faults: u64,
+    ghost short: { length text.items ≤ 1048576 },
 }
 
 impl Sink for TextSink {

@@ -1,6 +1,7 @@
 //! A text written line by line, as that of a report is which several threads have made.
 
-ghost use Rattle.std.specs.Prelude.{◌≡◌, ◌<◌, ◌≤◌, length, IfSome, IsErr};
+ghost use Rattle.std.specs.Prelude.{◌≡◌, ◌==◌, ◌-◌, ◌<◌, ◌≤◌, length, Some, None, IfSome, IfNone, IsErr};
+ghost use Rattle.std.specs.List.{position};
 ghost use Rattle.mos_bytes.specs.Outside.{Writes};
 ghost use Rattle.mos_bytes.specs.Writes.{WriteAdds};
 
@@ -11,6 +12,8 @@ use mos_bytes::{Failed, Sink};
 fn first_line_of(text: &[u8]) -> Option<usize>
     ensures some { IfSome result (λ len. 0 < len) }
     ensures within { IfSome result (λ len. len ≤ length text.now) }
+    ensures line { IfSome result (λ len. position (λ b. b == 10) text.now ≡ Some (len - 1)) }
+    ensures none { IfNone result (position (λ b. b == 10) text.now ≡ None) }
 {
     match newline_in(text) {
         Some(end) => Some(end + 1),
