@@ -1,5 +1,5 @@
 -- Only for proofs. Answers that are taken and written while a forward run streams.
-use Rattle.std.specs.Prelude.{◌≡◌, ℕ, ◌+◌, ◌<◌, Bool, nat_le, Option, List, length, set, get_or}
+use Rattle.std.specs.Prelude.{◌≡◌, ℕ, ◌+◌, ◌<◌, Option, List, length, set, get_or}
 use Rattle.lane_rings.specs.Ring.{taken, SameRx}
 use Rattle.lane_composition.specs.Share.{share}
 use Rattle.lane_rings.specs.Waiting.{Waiting}
@@ -12,10 +12,6 @@ IsCounted lane_answers = lane_answers.taken ≡ length (taken lane_answers.answe
 
 abbrev pub AreCounted : List LaneAnswers → Type 0
 AreCounted all_answers = (k : ℕ) (r : LaneAnswers) → k < length all_answers → IsCounted (get_or all_answers k r)
-
--- all packets that were sent to the lane have been answered, and their answers taken
-abbrev pub has_answered : LaneAnswers → Bool
-has_answered lane_answers = nat_le lane_answers.sent lane_answers.taken
 
 -- another count of the packets that were sent to the lane
 abbrev pub with_sent : LaneAnswers → ℕ → LaneAnswers

@@ -2,9 +2,7 @@
 //! order of the capture.
 
 ghost use Rattle.std.specs.Prelude.{◌≡◌, ◌≢◌, ◌<◌, ◌≤◌, ◌+◌, ◌++◌, ◌⊎◌, [], ◌∷◌, List, Option, None, Some, ℕ, length, nat_lt, replicate, true, Ok, Err, IfOk, IfErr, OnOk, IsOk, IsErrOf, IsTrue};
-ghost use Rattle.std.specs.List.{list_all};
 ghost use Rattle.mos_bytes.specs.Outside.{Reads, Writes};
-ghost use Rattle.pcap_source.specs.Capture.{is_whole};
 ghost use Rattle.pcap_source.specs.Captured.{Captured};
 ghost use Rattle.pcap_source.specs.Reading.{CaptureState, NextGives, Opened};
 ghost use Rattle.pcap_source.specs.declared.errors.NextError.TheVariants.{ReadFault as NextFault};
@@ -13,7 +11,7 @@ ghost use Rattle.worker_pool.specs.GoesOn.{IsReadTo};
 ghost use Rattle.worker_pool.specs.Inputs.{AreInputs, Dealt};
 ghost use Rattle.forward_dispatch.specs.OnTheirWay.{HasPlaces, AreFew};
 ghost use Rattle.forward_dispatch.specs.Streamed.{ReadsAndWrites, Streamed};
-ghost use Rattle.forward_dispatch.specs.TakenAnswers.{HaveTaken, LeaveAll, CutAll, has_answered};
+ghost use Rattle.forward_dispatch.specs.TakenAnswers.{HaveTaken, LeaveAll, CutAll};
 ghost use Rattle.forward_dispatch.specs.Turns.{HasSent, IsUnderWay, LeavesSo, WentOn, SendsOne, EndsSo};
 
 use crate::exit::{hand_on, write_ready};
@@ -89,9 +87,6 @@ impl<L: Recorder + Drop> Dealing<L> {
     fn may_read<S: Source>(&self, capture: &Capture, source: &S) -> bool
         ensures { result ≡ true
             → nat_lt self.now.packets (self.now.waiting.next + length self.now.waiting.window) ≡ true }
-        ensures waits { result ≡ true
-            → ((bytes : List ℕ) → S.left source.now ≡ Some bytes → IsTrue (is_whole capture.now.order bytes))
-            ⊎ IsTrue (list_all has_answered self.now.all_answers.items) }
     {
         self.waiting.reaches(self.packets)
             && (capture.is_at_hand(source) || have_answered(self.all_answers.as_slice()))

@@ -1,11 +1,10 @@
 //! What a lane answers.
 
 ghost use Rattle.std.specs.Prelude.{◌≡◌, ◌<◌, length, get_or};
-ghost use Rattle.std.specs.List.{list_all};
 ghost use Rattle.lane_composition.specs.Forward.{Leaving, offered};
 ghost use Rattle.forward_dispatch.specs.declared.lane_answers.LaneAnswers.{LaneAnswers as Answered};
 ghost use Rattle.forward_dispatch.specs.Drained.{KeepsTurn, Offers, OfferAll};
-ghost use Rattle.forward_dispatch.specs.TakenAnswers.{IsCounted, AreCounted, HasTaken, HaveTaken, counted_on, has_answered};
+ghost use Rattle.forward_dispatch.specs.TakenAnswers.{IsCounted, AreCounted, HasTaken, HaveTaken, counted_on};
 
 use lane_composition::forward::taking_stays_right;
 use lane_rings::{Answer, AnswerRx, Resequencer};
@@ -85,9 +84,7 @@ pub(crate) fn count_sent(all_answers: &mut Vec<LaneAnswers>, lane: usize)
 }
 
 /// Whether all packets that were sent have been answered, and their answers taken.
-pub(crate) fn have_answered(all_answers: &[LaneAnswers]) -> bool
-    ensures { result ≡ list_all has_answered all_answers.now }
-{
+pub(crate) fn have_answered(all_answers: &[LaneAnswers]) -> bool {
     for lane_answers in all_answers {
         if lane_answers.taken < lane_answers.sent {
             return false;
