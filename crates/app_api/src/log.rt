@@ -34,10 +34,12 @@ impl App for LogApp {
         Tally::zeros()
     }
 
+    #[inline(always)]
     fn react(&self, _t: &mut Tally, _call: &Call, _rules: &[Rule]) -> Reaction {
         Reaction::nothing()
     }
 
+    #[inline(always)]
     fn rests_at(&self, hook: Hook) -> bool
         ensures rests { IsTrue result → RestsAt log hook }
         ensures yes { IsTrue result }

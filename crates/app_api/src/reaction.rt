@@ -35,6 +35,7 @@ impl Reaction {
     ghost use Rattle.app_api.specs.Reaction.{asks_nothing};
 
     /// A reaction that asks nothing.
+    #[inline(always)]
     pub fn nothing() -> Reaction
         ensures { result ≡ asks_nothing }
     {

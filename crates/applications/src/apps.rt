@@ -68,6 +68,7 @@ impl App for AppKind {
         }
     }
 
+    #[inline(always)]
     fn react(&self, t: &mut Tally, call: &Call, rules: &[Rule]) -> Reaction {
         match self {
             AppKind::Log => LogApp.react(t, call, rules),
@@ -77,6 +78,7 @@ impl App for AppKind {
         }
     }
 
+    #[inline(always)]
     fn rests_at(&self, hook: Hook) -> bool {
         match self {
             AppKind::Log => LogApp.rests_at(hook),

@@ -25,6 +25,7 @@ const MOST: usize = 4 * 255;
 
 impl<A: App> Terms<'_, A> {
     // One callback: it peeks, leaves an entry where these are kept, and reacts.
+    #[inline(always)]
     fn call(
         &self,
         raise_at: &RaiseAt,

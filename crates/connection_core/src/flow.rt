@@ -134,6 +134,7 @@ impl Flow {
     }
 
     // The packet's phase at its sender.
+    #[inline(always)]
     fn send<A: App, F: Forests>(
         &mut self,
         terms: &Terms<A>,
@@ -192,6 +193,7 @@ impl Flow {
     }
 
     // Its phase at its receiver.
+    #[inline(always)]
     fn receive<A: App, F: Forests>(
         &mut self,
         terms: &Terms<A>,
@@ -234,6 +236,7 @@ impl Flow {
     }
 
     /// One more packet, and its callbacks. Where it was dropped at its sender it never comes to its receiver.
+    #[inline(always)]
     pub fn step<A: App, F: Forests>(
         &mut self,
         terms: &Terms<A>,
@@ -277,6 +280,7 @@ impl Flow {
 ghost use Rattle.connection_core.specs.History.{verdict_of};
 
 // What becomes of a packet for which a drop was asked, or none.
+#[inline(always)]
 pub(crate) fn verdict_of(drop: Option<Reason>) -> Verdict
     ensures { result ≡ verdict_of drop }
 {

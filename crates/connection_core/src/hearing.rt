@@ -71,6 +71,7 @@ pub(crate) fn lone_hearer(in_force: &InForce, tree: &Tree, hook: Hook) -> Option
 }
 
 /// Whether any raise of a packet's phase at its sender is heard.
+#[inline(always)]
 pub(crate) fn hears_sender(in_force: &InForce, tree: &Tree, first: bool, sent: &Sent) -> bool
     requires forest { IsForestInForce in_force.now tree.now }
     ensures { result ≡ false → (s : ControlState) (h : HeadOf) (from : Side) (nth : ℕ)
@@ -81,6 +82,7 @@ pub(crate) fn hears_sender(in_force: &InForce, tree: &Tree, first: bool, sent: &
 }
 
 /// Whether any raise of its phase at its receiver is heard.
+#[inline(always)]
 pub(crate) fn hears_receiver(in_force: &InForce, tree: &Tree, head: &Head, got: &Got) -> bool
     requires forest { IsForestInForce in_force.now tree.now }
     ensures { result ≡ false → (s : ControlState) (from : Side) (nth : ℕ) → IsInForce in_force.now s

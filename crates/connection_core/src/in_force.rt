@@ -24,6 +24,7 @@ impl InForce<'_> {
     ghost use Rattle.connection_core.specs.InForce.{registered, defs_at, IsInForce};
 
     /// The registration of a number.
+    #[inline(always)]
     pub(crate) fn reg_at(&self, number: u8) -> Option<&Reg>
         ensures reg { option_copied result ≡ registered self.now number }
         ensures number { IfSome result (λ r. r.now.number ≡ number) }
@@ -40,6 +41,7 @@ impl InForce<'_> {
     }
 
     /// The rules of the application.
+    #[inline(always)]
     pub(crate) fn rules(&self) -> &[Rule]
         ensures rules { (s : ControlState) → IsInForce self.now s → result.now ≡ s.rules }
         ensures lawful { IsTrue (are_rules result.now) }

@@ -127,7 +127,9 @@ impl Ledger {
         ensures drop { self.new.drop ≡ first_reason self.old.drop reaction.now.drop }
         ensures counts { self.new.counts ≡ self.old.counts }
     {
-        self.drop = self.drop.or(reaction.drop);
+        if reaction.drop.is_some() && self.drop.is_none() {
+            self.drop = reaction.drop;
+        }
         let changes = reaction.changes.as_slice();
         if changes.is_empty() {
             return Ok(());

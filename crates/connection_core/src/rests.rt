@@ -12,6 +12,7 @@ use native_filters::Hook;
 use shared_forest::Tree;
 
 // Whether a registration is a preset that each packet calls, and that looks at nothing.
+#[inline(always)]
 fn is_plain(reg: &Reg) -> bool
     ensures { IsTrue result → IsPlain reg.now }
 {

@@ -157,6 +157,7 @@ impl Master {
     }
 
     /// The registration of a number at a version. None where it isn't registered there.
+    #[inline(always)]
     pub fn reg_at(&self, version: u32, number: u8) -> Option<&Reg>
         ensures reg { AtVersion self.now version (λ s. option_copied result ≡ reg_of s.regs number) }
         ensures line { option_copied result ≡ as_of (line_of self.now.past number) version }
@@ -185,6 +186,7 @@ impl Master {
     }
 
     /// The rules at a version, by rising number.
+    #[inline(always)]
     pub fn rules_at(&self, version: u32) -> &[Rule]
         ensures rules { AtVersion self.now version (λ s. result.now ≡ s.rules) }
         ensures rise { IsTrue (are_rules result.now) }

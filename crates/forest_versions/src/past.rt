@@ -69,6 +69,7 @@ impl Past {
     }
 
     /// The registration of a number at a version, if there was one.
+    #[inline(always)]
     pub(crate) fn reg(&self, version: u32, number: u8) -> Option<&Reg>
         ensures { option_copied result ≡ as_of (line_of self.now number) version }
     {
@@ -90,6 +91,7 @@ impl Past {
     }
 
     /// The rules at a version, by number.
+    #[inline(always)]
     pub(crate) fn rules(&self, version: u32) -> &[Rule]
         ensures { result.now ≡ as_of self.now.rules version }
     {

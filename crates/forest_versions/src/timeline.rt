@@ -37,6 +37,7 @@ impl<T: Drop> Timeline<T> {
     }
 
     /// The value at a version. Nearly always it is the last one that is asked, so the last change is looked at first.
+    #[inline(always)]
     pub(crate) fn at(&self, version: u32) -> &T
         ensures { result.now ≡ as_of self.now version }
     {
@@ -53,6 +54,7 @@ impl<T: Drop> Timeline<T> {
     }
 
     /// The value at a version, as `at` has it, by a search of the changes.
+    #[inline(never)]
     fn searched(&self, version: u32) -> &T
         ensures { result.now ≡ as_of self.now version }
     {

@@ -97,6 +97,7 @@ impl<F: Forests + Drop> Records<F> {
     }
 
     /// Whether the entries that are kept weigh too much.
+    #[inline(always)]
     pub(crate) fn is_too_heavy(&self, keep: bool) -> bool
         ensures { result ≡ (keep && nat_lt 134217728 self.now.ledger.counts.weight) }
     {
@@ -105,6 +106,7 @@ impl<F: Forests + Drop> Records<F> {
 
     // Draws the table's seed before the first record: who sends packets from afar doesn't know the first frame and its time,
     // and so can't choose endpoints that collide.
+    #[inline(always)]
     fn prepare(&mut self, alloc: Global, moment: Moment, bytes: &[u8])
         ensures { AreAlike self.old self.new }
     {
@@ -116,6 +118,7 @@ impl<F: Forests + Drop> Records<F> {
     }
 
     // A segment.
+    #[inline(always)]
     fn segment<A: App>(
         &mut self,
         terms: &PacketTerms<'_, A>,
@@ -154,6 +157,7 @@ impl<F: Forests + Drop> Records<F> {
     }
 
     // The packet, before it is counted.
+    #[inline(always)]
     fn arrive<A: App>(
         &mut self,
         terms: &PacketTerms<'_, A>,
@@ -170,6 +174,7 @@ impl<F: Forests + Drop> Records<F> {
     }
 
     /// One more packet, of these captured bytes.
+    #[inline(always)]
     pub(crate) fn take<A: App>(
         &mut self,
         terms: &PacketTerms<'_, A>,
@@ -213,6 +218,7 @@ fn give_to<F: Forests>(
 }
 
 // So many dropped packets, and one more where this was dropped.
+#[inline(always)]
 fn counted(dropped: u64, verdict: Verdict) -> u64
     requires room { dropped < 2 ^ 63 }
     ensures sum { result ≡ dropped + length (drops_of verdict 0) }

@@ -10,6 +10,7 @@ use ip6_views::SightTcp;
 use tcp_emulation::Side;
 
 /// Which end of a connection with this client sent a segment.
+#[inline(always)]
 pub(crate) fn side_of(client: &Endpoint, segment: &SightTcp<'_>) -> Side
     ensures { result ≡ side_of client.now (seen segment.now) }
 {

@@ -64,6 +64,7 @@ impl RecordUnderWay {
     }
 
     /// Notes what became of a packet.
+    #[inline(always)]
     pub(crate) fn note(&mut self, number: u64, verdict: Verdict) -> Result<(), AllocError>
         ensures noted { OnOk result
             (self.new ≡ record self.old { drops = self.old.drops ++ drops_of verdict number }) }

@@ -2,7 +2,8 @@
 use Rattle.std.proofs.Common.{◌≡◌, ℕ, ◌+◌, ◌/◌, ◌%◌, ◌^◌, ◌<◌, ◌≤◌, List, [], ◌∷◌, ◌++◌, length, take, drop, set, refl, ap, sym, ◌∙◌, arith, length-append, length-set, append_assoc, codes}
 use Rattle.std.specs.Fmt.{decimal}
 use Rattle.std.proofs.lemmas.Fmt.{decimal_digit, decimal_step, length-decimal-le}
-use Rattle.std.proofs.lemmas.List.{take-append-le, take_at, drop_at, take-set, take-set-le, take-take, drop-set, drop-take, drop-append-le, length-take-le, length-drop}
+use Rattle.std.proofs.lemmas.List.{take-append-le, take_at, drop_at, take_more_set, take-set, take-set-le, take-take, drop-set, drop-take, drop-append-le, length-take-le, length-drop}
+use Rattle.std.proofs.lemmas.Grind.{take-set_at}
 use Rattle.std.proofs.Math.Seq.{take-add}
 use Rattle.std.proofs.lemmas.Slice.{take-put_mid_below}
 use borrow.Rule.Slice.PartMut.{put_mid, post_of}
@@ -103,6 +104,16 @@ ended bytes new digits rest at end last ends within before stands =
     ∙ (ap (λ l. l ++ take 1 (drop end (set new end last))) (take-set new end last ∙ numbered)
     ∙ (ap (λ l. (take at bytes ++ digits) ++ take 1 l) (drop-set new end last within) ∙ append_assoc (take at bytes) digits (last ∷ [])))
 
+-- a number of one digit and one byte behind so many others
+pub one_digit : (bytes : List ℕ) (at n : ℕ) → at + 1 < length bytes → n < 10
+    → take (at + 2) (set (set bytes at (48 + n)) (at + 1) 10) ≡ take at bytes ++ (decimal n ++ 10 ∷ [])
+one_digit bytes at n within low =
+    let put = set bytes at (48 + n) in
+    take-set_at put (at + 1) (at + 2) 10 (omega arith) (omega (arith, within, length-set bytes at (48 + n)))
+    ∙ (ap (λ l. l ++ 10 ∷ []) (take_more_set bytes at (48 + n) (omega (arith, within)))
+    ∙ (append_assoc (take at bytes) ((48 + n) ∷ []) (10 ∷ [])
+    ∙ ap (λ digits. take at bytes ++ (digits ++ 10 ∷ [])) (sym (decimal_digit n low))))
+
 -- how a line begins, and what is behind it
 pub joined : (bytes begin behind : List ℕ) (start : ℕ) (line : List ℕ) → start ≤ 24 → 24 ≤ length bytes → drop start (take 24 bytes) ≡ begin
     → line ≡ take 24 bytes ++ behind → drop start line ≡ begin ++ behind
@@ -114,6 +125,10 @@ joined bytes begin behind start line within long begins is =
 pub kept_before : (bytes new : List ℕ) (at end last : ℕ) → 24 ≤ at → at ≤ end → take at new ≡ take at bytes → take 24 (set new end last) ≡ take 24 bytes
 kept_before bytes new at end last far later before =
     take-set-le 24 new end last (omega arith) ∙ (sym (take-take 24 at new far) ∙ (ap (take 24) before ∙ take-take 24 at bytes far))
+
+pub kept_digit : (bytes : List ℕ) (at digit : ℕ) → 24 ≤ at → take 24 (set (set bytes at digit) (at + 1) 10) ≡ take 24 bytes
+kept_digit bytes at digit far =
+    take-set-le 24 (set bytes at digit) (at + 1) 10 (omega (arith, far)) ∙ take-set-le 24 bytes at digit far
 
 regroup : (d h e r end : List ℕ)
     → (99 ∷ 98 ∷ 32 ∷ d) ++ (((32 ∷ (h ++ 32 ∷ [])) ++ (e ++ 32 ∷ [])) ++ (r ++ end))

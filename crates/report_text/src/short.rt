@@ -90,6 +90,11 @@ fn put_ending(bytes: &mut [u8; 48], at: usize, reg: u8) -> usize
     ensures start { at ≤ result }
     ensures within { result ≤ 48 }
 {
+    if reg < 10 {
+        bytes[at] = b'0' + reg;
+        bytes[at + 1] = b'\n';
+        return at + 2;
+    }
     let end = at + width_of(reg);
     write_digits(u64::from(reg), bytes, end);
     bytes[end] = b'\n';

@@ -72,6 +72,7 @@ fn new_connection<A: App, F: Forests>(
 }
 
 // Steps a new connection by the segment that opens it, and its record with it, where both stand.
+#[inline(never)]
 fn start_one<A: App, F: Forests>(
     terms: &PacketTerms<'_, A>,
     master: &Master,

@@ -27,6 +27,7 @@ use shared_forest::Forests;
 use std::alloc::AllocError;
 
 // Steps an open connection, and notes in its record what became of the packet.
+#[inline(always)]
 pub(crate) fn step_one<A: App, F: Forests>(
     terms: &PacketTerms<'_, A>,
     master: &Master,
@@ -89,6 +90,7 @@ fn settle(connections: &mut FlowTable<Connection>, segment: &SightTcp<'_>, over:
 impl<F: Forests + Drop> Records<F> {
     /// Steps the open connection of a segment, where there is one that wasn't idle for too long, and closes it where it is over
     /// then. `None` leaves all as it was.
+    #[inline(always)]
     pub(crate) fn follow<A: App>(
         &mut self,
         terms: &PacketTerms<'_, A>,

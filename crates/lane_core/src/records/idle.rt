@@ -26,6 +26,7 @@ use std::alloc::AllocError;
 
 /// Whether an open connection was idle for longer than the limit of its version. Where nothing is limited now, no version
 /// is looked up.
+#[inline(always)]
 pub(crate) fn was_idle(master: &Master, conn: &Connection, now: Moment) -> bool
     ensures { IsIdle master.now conn.now now result }
 {
