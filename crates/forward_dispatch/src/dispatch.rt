@@ -19,7 +19,7 @@ use crate::lane_answers::{LaneAnswers, count_sent, have_answered, take_all, take
 use flow_timers::Moment;
 use lane_composition::forward::{later_lanes_change_nothing, sending_stays_right};
 use lane_core::Recorder;
-use lane_join::greatest_with;
+use lane_join::{greatest_with, moment_of};
 use lane_rings::Resequencer;
 use lane_worker::{Backoff, Gate, WorkerContext};
 use mos_bytes::{Sink, Source};
@@ -154,7 +154,7 @@ impl<L: Recorder + Drop> Dealing<L> {
     {
         sending_stays_right();
         later_lanes_change_nothing();
-        self.last = greatest_with(self.last, &frame);
+        self.last = greatest_with(self.last, moment_of(&frame));
         let lane = send_frame(context, &mut self.inputs, self.packets, frame);
         count_sent(&mut self.all_answers, lane);
         take_answers(&mut self.all_answers, lane, &mut self.waiting);

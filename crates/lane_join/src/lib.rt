@@ -13,4 +13,4 @@ mod merging;
 mod moments;
 
 pub use ends::{Joined, join};
-pub use moments::greatest_with;
+pub use moments::{greatest_with, moment_of};

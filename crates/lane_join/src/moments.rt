@@ -18,15 +18,23 @@ fn later_of(so_far: Option<Moment>, moment: Moment) -> Moment
     }
 }
 
-/// The greatest moment of a capture's packets, with that of one packet more; `so_far` is that of the packets before it, and
-/// none where it is the first. The moments of packets needn't rise.
-pub fn greatest_with(so_far: Option<Moment>, frame: &Frame) -> Option<Moment>
-    ensures greatest { (frames : List Captured) → so_far ≡ greatest (arrivals 0 frames)
-        → result ≡ greatest (arrivals 0 (frames ++ frame.now ∷ [])) }
+/// The moment of a captured packet.
+pub fn moment_of(frame: &Frame) -> Moment
+    ensures { result ≡ record { seconds = frame.now.seconds; fraction = frame.now.fraction } }
 {
-    let moment = Moment {
+    Moment {
         seconds: frame.seconds,
         fraction: frame.fraction,
-    };
+    }
+}
+
+/// The greatest moment of a capture's packets, with that of one packet more; `so_far` is that of the packets before it, and
+/// none where it is the first. The moments of packets needn't rise.
+#[inline(always)]
+pub fn greatest_with(so_far: Option<Moment>, moment: Moment) -> Option<Moment>
+    ensures greatest { (frames : List Captured) (frame : Captured)
+        → moment ≡ record { seconds = frame.seconds; fraction = frame.fraction }
+        → so_far ≡ greatest (arrivals 0 frames) → result ≡ greatest (arrivals 0 (frames ++ frame ∷ [])) }
+{
     Some(later_of(so_far, moment))
 }

@@ -55,7 +55,23 @@ pub struct LentPacket<'a> {
     pub bytes: &'a [u8],
 }
 
-impl LentPacket<'_> {
+impl<'a> LentPacket<'a> {
+    /// A packet whose bytes stand in a frame.
+    pub fn in_frame(index: u64, floor: u32, ceil: u32, frame: &'a Frame) -> LentPacket<'a>
+        ensures { lent result ≡ record { index = index; floor = floor; ceil = ceil; frame = frame.now } }
+    {
+        LentPacket {
+            index,
+            floor,
+            ceil,
+            seconds: frame.seconds,
+            fraction: frame.fraction,
+            original: frame.original,
+            head: frame.head,
+            bytes: &frame.bytes,
+        }
+    }
+
     /// A packet of its own that is the same.
     pub fn to_packet(&self, alloc: Global) -> Result<Packet, AllocError>
         ensures { IfOk result (λ packet. packet ≡ lent self.now) }
@@ -80,16 +96,7 @@ impl Packet {
     pub fn lend(&self) -> LentPacket<'_>
         ensures { lent result ≡ self.now }
     {
-        LentPacket {
-            index: self.index,
-            floor: self.floor,
-            ceil: self.ceil,
-            seconds: self.frame.seconds,
-            fraction: self.frame.fraction,
-            original: self.frame.original,
-            head: self.frame.head,
-            bytes: &self.frame.bytes,
-        }
+        LentPacket::in_frame(self.index, self.floor, self.ceil, &self.frame)
     }
 }
 
@@ -104,28 +111,22 @@ impl FlatBatch {
         }
     }
 
-    /// Adds a packet behind the others. An error is want of memory; the batch is then as it was.
-    pub fn push(
-        &mut self,
-        index: u64,
-        floor: u32,
-        ceil: u32,
-        frame: &Frame,
-    ) -> Result<(), AllocError>
-        ensures ok { OnOk result (self.new ≡ self.old
-            ++ record { index = index; floor = floor; ceil = ceil; frame = frame.now } ∷ []) }
+    /// Adds a packet behind the others, with a copy of its bytes. An error is want of memory; the batch is then as it was.
+    #[inline(always)]
+    pub fn push(&mut self, packet: &LentPacket<'_>) -> Result<(), AllocError>
+        ensures ok { OnOk result (self.new ≡ self.old ++ lent packet.now ∷ []) }
         ensures unchanged { OnErr result (self.new ≡ self.old) }
     {
         let start = self.bytes.len();
-        self.bytes.extend_from_slice(&frame.bytes)?;
+        self.bytes.extend_from_slice(packet.bytes)?;
         self.places.push(Place {
-            index,
-            floor,
-            ceil,
-            seconds: frame.seconds,
-            fraction: frame.fraction,
-            original: frame.original,
-            head: frame.head,
+            index: packet.index,
+            floor: packet.floor,
+            ceil: packet.ceil,
+            seconds: packet.seconds,
+            fraction: packet.fraction,
+            original: packet.original,
+            head: packet.head,
             start,
             end: self.bytes.len(),
         })?;

@@ -1,5 +1,5 @@
 -- Not of the headline. A record that is taken where it stands.
-use Rattle.std.specs.Prelude.{◌≡◌, ◌≢◌, ℕ, ◌+◌, ◌≤◌, List, [], length, take, drop, Option, Some, IsTrue}
+use Rattle.std.specs.Prelude.{◌≡◌, ◌≢◌, ℕ, ◌+◌, ◌≤◌, List, [], length, take, drop, Option, None, Some, IsTrue}
 use Rattle.std.specs.Io.{StartsWith}
 use Rattle.pcap_source.specs.Captured.{record_bytes}
 use Rattle.pcap_source.specs.Capture.{record_at, with_frame}
@@ -8,16 +8,18 @@ use Rattle.pcap_source.specs.Reading.{CaptureState, IsRecord, Moves, frames_at}
 use Rattle.pcap_source.specs.declared.order.Order.{Order}
 use Rattle.pcap_source.specs.declared.capture.WholeRecord.{WholeRecord}
 
--- what a head says of the time and the length of its record
+-- what a head says of its packet and of the length of its record
 pub record Tells (order : Order) (head : List ℕ) (whole : WholeRecord) : Type 0 where
   pub seconds : whole.seconds ≡ number_in order 4 head
   pub fraction : whole.fraction ≡ number_in order 4 (drop 4 head)
+  pub original : whole.original ≡ number_in order 4 (drop 12 head)
   pub len : whole.len ≡ 16 + number_in order 4 (drop 8 head)
 
 -- the record at the front of these bytes was taken where it stands
 pub record TakesInPlace (old new : CaptureState) (front : List ℕ) (whole : WholeRecord) : Type 0 where
   pub seconds : whole.seconds ≡ (record_at old.order front).seconds
   pub fraction : whole.fraction ≡ (record_at old.order front).fraction
+  pub original : whole.original ≡ (record_at old.order front).original
   pub within : whole.len ≤ length front
   pub bytes : record_bytes (record_at old.order front) ≡ take whole.len front
   pub captured : (record_at old.order front).bytes ≡ drop 16 (take whole.len front)
@@ -27,6 +29,11 @@ pub record TakesInPlace (old new : CaptureState) (front : List ℕ) (whole : Who
   -- in bytes that begin so, it is the next record
   pub gives : (left : List ℕ) → StartsWith left front
       → frames_at old left ≡ with_frame (record_at old.order front) (frames_at new (drop whole.len left))
+
+-- what bytes are left behind so many, where they are told
+abbrev pub left_behind : ℕ → Option (List ℕ) → Option (List ℕ)
+left_behind n None = None
+left_behind n (Some left) = Some (drop n left)
 
 -- so many bytes were passed over, where they were told
 abbrev pub IsPassed : Option (List ℕ) → Option (List ℕ) → ℕ → Type 0

@@ -46,6 +46,8 @@ pub struct WholeRecord {
     pub seconds: u32,
     /// The rest of the time, in the capture's unit: microseconds or nanoseconds.
     pub fraction: u32,
+    /// How many bytes the packet had on the wire.
+    pub original: u32,
     /// How many bytes the record has: its header of 16, and those that were captured.
     pub len: usize,
 }
@@ -118,7 +120,7 @@ fn whole_data(order: Order, front: &[u8]) -> Option<usize>
     Some(captured as usize)
 }
 
-// What a head says of the time and the length of its record.
+// What a head says of its packet and of the length of its record.
 #[inline(always)]
 fn read_head(order: Order, head: &[u8]) -> WholeRecord
     requires { length head.now ≡ 16 }
@@ -127,6 +129,7 @@ fn read_head(order: Order, head: &[u8]) -> WholeRecord
     WholeRecord {
         seconds: order.u32_at(head, 0),
         fraction: order.u32_at(head, 4),
+        original: order.u32_at(head, 12),
         len: HEAD + order.u32_at(head, 8) as usize,
     }
 }
@@ -366,6 +369,13 @@ impl Capture {
         ensures { result.now ≡ self.now.header }
     {
         &self.header
+    }
+
+    /// Ends the reading: the capture is no longer live.
+    pub fn stop(&mut self)
+        ensures { self.new ≡ record self.old { is_live = false } }
+    {
+        self.is_live = false;
     }
 
     /// Whether the next record may be read.

@@ -13,3 +13,5 @@ mod Returned
 mod Rows
 mod Starting
 mod Crossed
+mod Onward
+pub mod Walking

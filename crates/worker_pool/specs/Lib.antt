@@ -9,3 +9,4 @@ pub mod Making
 pub mod AtWork
 pub mod GoesOn
 pub mod Source
+pub mod Onward

@@ -1,9 +1,11 @@
-//! Workers of a run on several lanes, each in a thread of its own, and a run on several lanes that is reported.
+//! Workers of a run on several lanes, and a run on several lanes that is reported. A worker has a thread of its own. Where
+//! answers are waited for, that of lane 0 works in the calling thread instead.
 //!
-//! The way of a packet: the *feed* of a run (`team::feed`), in the calling thread, reads it and sends it (`team::dispatch`) to
-//! the *input* of its lane (`team::lane_input`); the worker of the lane (`lane_worker`) takes it. `team` makes the workers,
-//! starts their threads, has one thread more send places in the script, and joins all of them; a run of another kind is a team
-//! with another feed. `report` runs a team for a report, and joins what its lanes end with.
+//! The way of a packet: the *feed* of a run (`team::feed`), in the calling thread, reads it (`team::dispatch`; where the source
+//! lends it, `team::in_place`) and sends it to the *input* of its lane (`team::lane_input`); the worker of the lane
+//! (`lane_worker`) takes it. `team` makes the workers, starts their threads, has one thread more send places in the script, and
+//! joins all of them; a run of another kind is a team with another feed. `report` runs a team for a report, and joins what its
+//! lanes end with.
 //! Contract: `run_lanes` and `run_lanes_kept` answer the records and totals of one run over all packets, under versions that
 //! they answer too and that the run may have, whatever the order of the threads' steps. A thread that can't be started is no
 //! error.

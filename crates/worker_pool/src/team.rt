@@ -1,4 +1,5 @@
-//! Workers that share a run: a thread for each lane, one for the script's commands, and the dispatcher in this one.
+//! Workers that share a run: a thread for each of them, one for the script's commands, and the dispatcher in this one. Where
+//! answers are waited for, the worker of lane 0 has no thread, and works beside the dispatcher.
 
 ghost use Rattle.std.specs.Prelude.{◌≡◌, ◌≤◌, [], ◌∷◌, None, length, IfOk, IfErr, IsTrue};
 ghost use Rattle.std.specs.Vec.{vec_capacity};
@@ -33,12 +34,15 @@ use std::thread::{JoinHandle, Scope, Threads};
 
 mod context;
 mod control;
+mod dealing;
 pub mod dispatch;
 pub mod ends;
 pub mod feed;
 mod finish;
+mod in_place;
 pub mod lane_input;
 pub mod make;
+mod progress;
 mod worker_place;
 
 /// Workers that have begun nothing, with the sending ends of their rings: each list has one for each lane, in order.
@@ -144,13 +148,13 @@ fn take_on<'s, E: 's, L: Recorder + Drop + Send + 's, D: WorkerRunner<L> + Sync>
     start_work(scope, promise, stop, w, f)
 }
 
-// Starts the thread of each worker, and answers their inputs, in `room`: that is empty, and has a place for each.
+// Takes on each worker, in a thread of its own or here, and answers their inputs, in `room`: that is empty, and has a place for
+// each.
 fn start_all<'s, E: 's, L: Recorder + Drop + Send + 's, D: WorkerRunner<L> + Sync>(
     scope: &Scope<'s, E>,
     context: &'s D,
     script: &Script,
     stops: &'s [AtomicBool],
-    alloc: Global,
     workers: Vec<Worker<L>>,
     packets: Vec<BatchTx>,
     room: Vec<LaneInput<L>>,
@@ -165,6 +169,7 @@ fn start_all<'s, E: 's, L: Recorder + Drop + Send + 's, D: WorkerRunner<L> + Syn
 {
     let mut workers = VecDeque::from(workers);
     let mut packets = VecDeque::from(packets);
+    let alloc = *room.allocator();
     let mut inputs = room;
     for stop in stops {
         let w = take_first(&mut workers);
@@ -251,9 +256,7 @@ fn run_threads<
             ensures same { result.2.ghost_name ≡ feed.entry.ghost_name }
         {
             let control = start_control(scope, move || publish(commands, count, gate));
-            let mut inputs = start_all(
-                scope, runner, script, stops, alloc, workers, packets, inputs,
-            );
+            let mut inputs = start_all(scope, runner, script, stops, workers, packets, inputs);
             let read = feed.send_packets(&mut inputs);
             raise_all(stops);
             join_control(rt, control);
@@ -307,8 +310,9 @@ fn run_lent_feed<
 }
 
 /// Runs a team over the packets that a feed sends: each packet is taken by the worker of its lane, and each of the
-/// script's commands is told to all. Answers what the feed ended with, and the workers. A lane for which no thread
-/// can be started is run in this one, as lane 0 is where answers are waited for, and where the thread of the commands can't be started, they are told first.
+/// script's commands is told to all. Answers what the feed ended with, and the workers. Lane 0 is run in this thread where
+/// answers are waited for, and so is a lane for which no thread can be started. Where the thread of the commands can't be
+/// started, they are told first.
 ///
 /// An error is want of memory, before the feed has begun; it is as it was then. The context's `failed` is raised where a
 /// lane fails.

@@ -13,7 +13,8 @@ use app_api::{LogApp, Reason, Verdict};
 use control_script::Script;
 use lane_core::{Lane, Recorder};
 use lane_rings::{
-    AnswerRx, Batch, BatchTx, CommandTx, FlatBatch, Packet, answer_ring, batch_ring, command_ring,
+    AnswerRx, Batch, BatchTx, CommandTx, FlatBatch, LentPacket, Packet, answer_ring, batch_ring,
+    command_ring,
 };
 use lane_worker::{OpenGate, Worker, work};
 use shared_forest::{ForestStore, StoreUser, Table};
@@ -259,7 +260,10 @@ fn send_flat(ends: &mut Ends, alloc: Global, packets: &[(u64, u32, u32)]) -> boo
         let Ok(frame) = captured(alloc, &higher(&SYN, (*index % 256) as u8)) else {
             return false;
         };
-        if batch.push(*index, *floor, *ceil, &frame).is_err() {
+        if batch
+            .push(&LentPacket::in_frame(*index, *floor, *ceil, &frame))
+            .is_err()
+        {
             return false;
         }
     }

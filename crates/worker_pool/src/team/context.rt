@@ -1,4 +1,4 @@
-//! What the thread of each worker does.
+//! What each worker does, in a thread of its own or in the one that deals the packets.
 
 ghost use Rattle.std.specs.Prelude.{◌≡◌, None, IsTrue};
 ghost use Rattle.forest_versions.specs.Lawful.{are_lawful};
@@ -10,7 +10,7 @@ use lane_worker::{Gate, Worker, WorkerContext, work_in};
 use std::sync::Wait;
 use std::sync::atomic::AtomicBool;
 
-/// Runs workers, each in its thread. It is shared by these, so that a thread takes one reference for all that it needs.
+/// Runs workers. It is shared by their threads, so that a thread takes one reference for all that it needs.
 pub(crate) trait WorkerRunner<L: Recorder + Drop> {
     ghost use Rattle.std.specs.Prelude.{List};
     ghost use Rattle.forest_versions.specs.declared.command.Command.{Command};

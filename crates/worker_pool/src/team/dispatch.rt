@@ -8,10 +8,13 @@ ghost use Rattle.lane_worker.specs.declared.worker.Worker.{Worker as Begun};
 ghost use Rattle.worker_pool.specs.Inputs.{AreInputs, Dealt, ReadsAs};
 ghost use Rattle.worker_pool.specs.Source.{ReadsOn};
 
-use crate::team::lane_input::{LaneInput, deal_to, flush_all, send_to};
+use crate::team::dealing::deal_frame;
+use crate::team::in_place::deal_lent;
+use crate::team::lane_input::{LaneInput, flush_all, send_to};
+use crate::team::progress::Progress;
 use flow_timers::Moment;
 use lane_core::Recorder;
-use lane_join::greatest_with;
+use lane_join::moment_of;
 use lane_rings::{BatchRx, Packet};
 use lane_worker::{Gate, WorkerContext};
 use mos_bytes::Source;
@@ -67,28 +70,6 @@ pub fn send_frame<R: Wait, L: Recorder + Drop, G: Gate>(
     lane
 }
 
-/// Gives the next frame of a capture, of which so many were given, to the input of its lane, where it may wait for others.
-/// It waits where the ring of the lane is full, and works on a lane whose worker is in this thread. The frame holds nothing
-/// then that counts. Batches that come back through `used` serve again.
-fn deal_frame<R: Wait, L: Recorder + Drop, G: Gate>(
-    context: &WorkerContext<'_, R, G>,
-    inputs: &mut Vec<LaneInput<L>>,
-    used: &mut [BatchRx],
-    index: u64,
-    frame: &mut Frame,
-)
-    requires some { 1 ≤ length inputs.old.items }
-    requires inputs { (begins : List (Begun L)) × (frames : List Captured)
-        × AreInputs L.Recorder context.now.script.now begins frames inputs.old.items }
-    ensures count { length inputs.new.items ≡ length inputs.old.items }
-    ensures sent { (begins : List (Begun L)) (frames : List Captured) → length frames ≡ index
-        → AreInputs L.Recorder context.now.script.now begins frames inputs.old.items
-        → AreInputs L.Recorder context.now.script.now begins (frames ++ frame.old ∷ []) inputs.new.items }
-{
-    let lane = lane_of_frame(frame, inputs.len());
-    deal_to(context, &mut inputs[lane], used, lane, index, frame);
-}
-
 // Sends what is unsent for each lane where more may have to be read, so that nothing waits for what comes later.
 fn flush_before_read<R: Wait, L: Recorder + Drop, S: Source, G: Gate>(
     context: &WorkerContext<'_, R, G>,
@@ -108,9 +89,49 @@ fn flush_before_read<R: Wait, L: Recorder + Drop, S: Source, G: Gate>(
     }
 }
 
+// Reads an opened capture to its end or its tail, or to where it is refused, as `dispatch` does. The capture may stay live.
+fn deal_all<R: Wait, L: Recorder + Drop, S: Source, G: Gate>(
+    context: &WorkerContext<'_, R, G>,
+    inputs: &mut Vec<LaneInput<L>>,
+    capture: &mut Capture,
+    source: &mut S,
+    used: &mut [BatchRx],
+) -> Result<Whole, NextError>
+    requires opened { Opened capture.old }
+    requires some { 1 ≤ length inputs.old.items }
+    requires inputs { (begins : List (Begun L))
+        × AreInputs L.Recorder context.now.script.now begins [] inputs.old.items }
+    ensures dispatched { (begins : List (Begun L))
+        → AreInputs L.Recorder context.now.script.now begins [] inputs.old.items
+        → Dealt L.Recorder context.now.script.now begins inputs.new.items
+        (λ frames. ReadsAs frames capture.old (S.left source.old) (S.left source.new) result) }
+    ensures reads { ReadsOn S.Source capture.old source.old source.new (IsOk result)
+        (IsErrOf result NextError.ReadFault) }
+{
+    let mut frame = Frame::new(context.alloc);
+    let mut so_far = Progress {
+        packets: 0,
+        last: None,
+    };
+    loop {
+        let lent = deal_lent(context, inputs, used, capture, so_far, source, &mut frame)?;
+        flush_before_read(context, inputs, capture, source, used);
+        match capture.next(source, &mut frame)? {
+            Step::Frame => {
+                deal_frame(context, inputs, used, lent.packets, &frame)?;
+                so_far = lent.with_packet(moment_of(&frame));
+            }
+            Step::Tail(tail) => return Ok(lent.whole(tail)),
+            Step::End => return Ok(lent.whole(0)),
+        }
+    }
+}
+
 /// Reads an opened capture to its end or its tail, or to where it is refused, and sends each packet to the input of its
 /// lane. It waits where the ring of a lane is full, and works on a lane whose worker is in this thread. Packets go together,
 /// but none waits for others that are still to be read. Batches that come back through `used` serve again.
+///
+/// What the source lends is read where it stands. After whatever it answers the capture is no longer live.
 pub(crate) fn dispatch<R: Wait, L: Recorder + Drop, S: Source, G: Gate>(
     context: &WorkerContext<'_, R, G>,
     inputs: &mut Vec<LaneInput<L>>,
@@ -130,31 +151,7 @@ pub(crate) fn dispatch<R: Wait, L: Recorder + Drop, S: Source, G: Gate>(
         (IsErrOf result NextError.ReadFault) }
     ensures stopped { capture.new.is_live ≡ false }
 {
-    let mut packets = 0;
-    let mut last = None;
-    let mut frame = Frame::new(context.alloc);
-    loop {
-        flush_before_read(context, inputs, capture, source, used.as_mut_slice());
-        match capture.next(source, &mut frame)? {
-            Step::Frame => {
-                last = greatest_with(last, &frame);
-                deal_frame(context, inputs, used.as_mut_slice(), packets, &mut frame);
-                packets += 1;
-            }
-            Step::Tail(tail) => {
-                return Ok(Whole {
-                    packets,
-                    tail,
-                    last,
-                });
-            }
-            Step::End => {
-                return Ok(Whole {
-                    packets,
-                    tail: 0,
-                    last,
-                });
-            }
-        }
-    }
+    let ended = deal_all(context, inputs, capture, source, used.as_mut_slice());
+    capture.stop();
+    ended
 }

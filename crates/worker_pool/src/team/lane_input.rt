@@ -1,20 +1,19 @@
 //! What feeds a lane: where its packets are sent.
 
-ghost use Rattle.std.specs.Prelude.{◌≡◌, ◌++◌, [], ◌∷◌, List};
+ghost use Rattle.std.specs.Prelude.{◌≡◌, ◌++◌, [], ◌∷◌, List, OnOk, OnErr};
 ghost use Rattle.control_script.specs.Order.{commands_of};
 ghost use Rattle.lane_rings.specs.declared.items.Packet.{Packet as Sent};
 ghost use Rattle.lane_rings.specs.Batch.{packets_of};
+ghost use Rattle.lane_rings.specs.Places.{lent};
 ghost use Rattle.lane_worker.specs.declared.worker.Worker.{Worker as Begun};
 ghost use Rattle.pcap_source.specs.Captured.{Captured};
 ghost use Rattle.worker_pool.specs.Inputs.{IsInput, AreInputs};
-ghost use Rattle.worker_pool.specs.Sent.{sent_as};
 
 use crate::team::worker_place::WorkerPlace;
 use lane_core::Recorder;
-use lane_rings::{Batch, BatchRx, BatchTx, FlatBatch, Packet};
+use lane_rings::{Batch, BatchRx, BatchTx, FlatBatch, LentPacket, Packet};
 use lane_worker::{Backoff, Gate, WorkerContext, take_turn};
-use pcap_source::Frame;
-use std::alloc::Global;
+use std::alloc::{AllocError, Global};
 use std::mem::replace;
 use std::sync::Wait;
 
@@ -163,59 +162,70 @@ fn is_full(batch: &FlatBatch) -> bool {
     batch.len() >= PACKETS_IN_BATCH || batch.byte_count() >= BYTES_IN_BATCH
 }
 
-// Adds a frame's packet to what is unsent for a lane. Where memory for that is refused, the frame itself is sent.
+// Adds a packet to what is unsent for a lane. Where memory for that is refused, a packet of its own is sent.
+#[inline(always)]
 fn add_to<R: Wait, L: Recorder + Drop, G: Gate>(
     context: &WorkerContext<'_, R, G>,
     input: &mut LaneInput<L>,
-    index: u64,
-    floor: u32,
-    ceil: u32,
-    frame: &mut Frame,
-)
+    packet: &LentPacket<'_>,
+) -> Result<(), AllocError>
     requires input { (begin : Begun L) × (packets : List Sent)
         × IsInput L.Recorder (commands_of context.now.script.now) begin packets input.old }
-    ensures { (begin : Begun L) (packets : List Sent)
+    ensures added { OnOk result ((begin : Begun L) (packets : List Sent)
         → IsInput L.Recorder (commands_of context.now.script.now) begin packets input.old
-        → IsInput L.Recorder (commands_of context.now.script.now) begin
-        (packets ++ record { index = index; floor = floor; ceil = ceil; frame = frame.old } ∷ []) input.new }
+        → IsInput L.Recorder (commands_of context.now.script.now) begin (packets ++ lent packet.now ∷ []) input.new) }
+    ensures kept { OnErr result ((begin : Begun L) (packets : List Sent)
+        → IsInput L.Recorder (commands_of context.now.script.now) begin packets input.old
+        → IsInput L.Recorder (commands_of context.now.script.now) begin packets input.new) }
 {
-    match input.unsent.push(index, floor, ceil, frame) {
-        Ok(()) => {}
-        Err(_) => {
-            let frame = replace(frame, Frame::new(context.alloc));
-            let packet = Packet {
-                index,
-                floor,
-                ceil,
-                frame,
-            };
-            send_to(context, input, packet);
-        }
+    match input.unsent.push(packet) {
+        Ok(()) => Ok(()),
+        Err(_) => send_own(context, input, packet),
     }
 }
 
-/// Gives a frame's packet to a lane: it joins what is unsent for the lane, and that is sent where it has become long.
-/// Batches that come back through `used` serve again.
+// Sends a copy of a packet to a lane, behind what is unsent for it. An error is want of memory; nothing is sent then.
+#[inline(never)]
+fn send_own<R: Wait, L: Recorder + Drop, G: Gate>(
+    context: &WorkerContext<'_, R, G>,
+    input: &mut LaneInput<L>,
+    packet: &LentPacket<'_>,
+) -> Result<(), AllocError>
+    requires input { (begin : Begun L) × (packets : List Sent)
+        × IsInput L.Recorder (commands_of context.now.script.now) begin packets input.old }
+    ensures sent { OnOk result ((begin : Begun L) (packets : List Sent)
+        → IsInput L.Recorder (commands_of context.now.script.now) begin packets input.old
+        → IsInput L.Recorder (commands_of context.now.script.now) begin (packets ++ lent packet.now ∷ []) input.new) }
+    ensures unchanged { OnErr result (input.new ≡ input.old) }
+{
+    let own = packet.to_packet(context.alloc)?;
+    send_to(context, input, own);
+    Ok(())
+}
+
+/// Gives a packet to a lane: it joins what is unsent for the lane, and that is sent where it has become long. Batches that
+/// come back through `used` serve again. An error is want of memory; the packet isn't given then.
+#[inline(always)]
 pub(crate) fn deal_to<R: Wait, L: Recorder + Drop, G: Gate>(
     context: &WorkerContext<'_, R, G>,
     input: &mut LaneInput<L>,
     used: &mut [BatchRx],
     lane: usize,
-    index: u64,
-    frame: &mut Frame,
-)
+    packet: &LentPacket<'_>,
+) -> Result<(), AllocError>
     requires input { (begin : Begun L) × (packets : List Sent)
         × IsInput L.Recorder (commands_of context.now.script.now) begin packets input.old }
-    ensures { (begin : Begun L) (packets : List Sent)
+    ensures dealt { OnOk result ((begin : Begun L) (packets : List Sent)
         → IsInput L.Recorder (commands_of context.now.script.now) begin packets input.old
-        → IsInput L.Recorder (commands_of context.now.script.now) begin
-        (packets ++ sent_as context.now.script.now index frame.old ∷ []) input.new }
+        → IsInput L.Recorder (commands_of context.now.script.now) begin (packets ++ lent packet.now ∷ []) input.new) }
+    ensures kept { OnErr result ((begin : Begun L) (packets : List Sent)
+        → IsInput L.Recorder (commands_of context.now.script.now) begin packets input.old
+        → IsInput L.Recorder (commands_of context.now.script.now) begin packets input.new) }
 {
-    let floor = context.script.floor(index);
-    let ceil = context.script.ceil(index);
-    add_to(context, input, index, floor, ceil, frame);
+    add_to(context, input, packet)?;
     let is_due = is_full(&input.unsent);
     flush_due(context, input, used, lane, is_due);
+    Ok(())
 }
 
 /// Sends what is unsent for each lane, as `flush` does.

@@ -60,7 +60,7 @@ returns-clause-went g c = λ now. record {
       let own : lane ≡ lane_of_sight (sight_of c.args.frame.bytes) (length all_answers) = c.send_frame-lane.ensures.lane ∙ ap (lane_of_sight (sight_of c.args.frame.bytes)) lanes in
       record {
         count = length_push frames c.args.frame ∙ ap (λ n. n + 1) s.count;
-        newest = c.greatest_with-self.ensures.greatest frames s.newest;
+        newest = c.greatest_with-self.ensures.greatest frames c.args.frame c.moment_of.ensures s.newest;
         inputs_are = c.send_frame-lane.ensures.sent begins frames s.count s.inputs_are;
         all_answers_are = all_answers_after begins (frames ++ c.args.frame ∷ []) (counted_on all_answers lane r) c.take_answers.new.all_answers.items
             (subst (λ (xs : List LaneAnswers). HaveTaken xs c.take_answers.new.all_answers.items) (c.count_sent.ensures r) c.take_answers.ensures.takes)

@@ -6,29 +6,27 @@ use Rattle.lane_rings.specs.declared.batch.Place.{Place}
 use Rattle.lane_rings.proofs.Batches.{packets-still, packets-more}
 use Rattle.lane_rings.proofs.batch.FlatBatch.push.Goals as goal
 
--- src/batch.rt:82:9
 pub returns-in_err-push-clause-unchanged : goal.returns-in_err-push-clause-unchanged
 returns-in_err-push-clause-unchanged c =
-    let still = packets-still c.self.inside.bytes.items c.frame.inside.bytes.items c.self.inside.places.items c.self.inside.within in
+    let still = packets-still c.self.inside.bytes.items c.args.packet.now.bytes.now c.self.inside.places.items c.self.inside.within in
     search (rules, still)
 
--- src/batch.rt:69:5
 pub returns-clause-ok : goal.returns-clause-ok
 returns-clause-ok c =
-    let inside = c.frame.inside in
+    let packet = c.args.packet.now in
     let bytes = c.self.inside.bytes.items in
     let place : Place = record {
-      index = c.args.index;
-      floor = c.args.floor;
-      ceil = c.args.ceil;
-      seconds = inside.seconds;
-      fraction = inside.fraction;
-      original = inside.original;
-      head = inside.head;
+      index = packet.index;
+      floor = packet.floor;
+      ceil = packet.ceil;
+      seconds = packet.seconds;
+      fraction = packet.fraction;
+      original = packet.original;
+      head = packet.head;
       start = c.len-start.result;
       end = c.len.result;
     } in
     let start : c.len-start.result ≡ length bytes = search rules in
-    let end : c.len.result ≡ length bytes + length inside.bytes.items = search rules in
-    let more = packets-more bytes inside.bytes.items c.self.inside.places.items place c.self.inside.within start end in
+    let end : c.len.result ≡ length bytes + length packet.bytes.now = search rules in
+    let more = packets-more bytes packet.bytes.now c.self.inside.places.items place c.self.inside.within start end in
     search (rules, more)

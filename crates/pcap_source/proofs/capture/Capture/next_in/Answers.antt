@@ -17,6 +17,7 @@ returns-clause-taken c =
     (record {
       seconds = record_is.ensures.seconds;
       fraction = record_is.ensures.fraction;
+      original = record_is.ensures.original;
       within = within;
       bytes = standing_bytes order record_is.result.len front told within bounded;
       captured = standing_data order record_is.result.len front told within bounded;

@@ -1,4 +1,4 @@
-use Rattle.std.proofs.Common.{◌≡◌, ◌++◌, length, refl, sym, ap, subst, ◌∙◌, arith}
+use Rattle.std.proofs.Common.{◌++◌, ap, subst, ◌∙◌}
 use Rattle.control_script.specs.Order.{commands_of}
 use Rattle.lane_rings.specs.Ring.{sent}
 use Rattle.lane_rings.specs.Batch.{packets_in}
