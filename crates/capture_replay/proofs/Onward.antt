@@ -9,6 +9,7 @@ use Rattle.mos_bytes.specs.declared.sink.Sink.{Ghosts as Sink}
 use Rattle.mos_bytes.specs.declared.failed.Failed.{Failed}
 use Rattle.mos_bytes.specs.Outside.{Reads, Writes}
 use Rattle.mos_bytes.specs.Writes.{AppendsFront}
+use Rattle.mos_bytes.proofs.Causes.{HasCauseOf-earlier}
 use Rattle.pcap_source.specs.Captured.{Captured}
 use Rattle.pcap_source.specs.Capture.{ended, tail}
 use Rattle.pcap_source.specs.Reading.{CaptureState, Moves, NextGives, frames_at}
@@ -30,7 +31,7 @@ use Rattle.capture_replay.specs.Outcome.{is_forward, outcome_over, streamed}
 use Rattle.capture_replay.specs.Runs.{EndsAlone, MayRun, RunsAlone, RunsAs, StopsAs}
 use Rattle.capture_replay.specs.Typed.{ReportIsTyped, counted, shown}
 use Rattle.capture_replay.specs.Reading.{BreaksOff, GoesOn, HandsOn, HasCome, LaneHasRead, LaneIsReady, MayReadOn, Replaying, Replays, RunState, RunsOn, SameLane, StopsAt, gained, run_at}
-use Rattle.capture_replay.proofs.Refusals.{is_read_fault, no_write_fault, rose_since}
+use Rattle.capture_replay.proofs.Refusals.{is_read_fault, no_write_fault}
 use Rattle.capture_replay.proofs.Ends.{cut_record, err_same, no_heavy_record, no_ok, no_read_end, reads_refused, reads_whole}
 use Rattle.capture_replay.proofs.Replaying.{StepTold, ended_at, front_of_frame, front_so_far, refused_record, replayed, step_told, stopped_by, stopped_writing, streamed_last}
 use Rattle.capture_replay.proofs.InPlace.{latest_with}
@@ -46,13 +47,7 @@ module _ {S : Type 0} {source : Source S} where
   reads_as less reads = record { cause = record { later = reads.cause.later; cause = λ fault. reads.cause.cause (less fault) }; lasts = reads.lasts }
 
   pub reads_since : {s t u : S} {F G : Type 0} → Reads source s t F → Reads source t u G → Reads source s u G
-  reads_since first next = record {
-    cause = record {
-      later = let one = first.cause.later in let two = next.cause.later in omega (arith, one, two);
-      cause = λ fault. rose_since _ _ _ first.cause.later (next.cause.cause fault);
-    };
-    lasts = next.lasts ∙ first.lasts;
-  }
+  reads_since first next = record { cause = HasCauseOf-earlier _ _ _ _ first.cause.later next.cause; lasts = next.lasts ∙ first.lasts }
 
 module _ {O : Type 0} {sink : Sink O} where
   pub writes_nothing : (o : O) → Writes sink o o ⊥
@@ -62,13 +57,7 @@ module _ {O : Type 0} {sink : Sink O} where
   writes_as less writes = record { cause = record { later = writes.cause.later; cause = λ fault. writes.cause.cause (less fault) }; lasts = writes.lasts }
 
   pub writes_since : {o p q : O} {F G : Type 0} → Writes sink o p F → Writes sink p q G → Writes sink o q G
-  writes_since first next = record {
-    cause = record {
-      later = let one = first.cause.later in let two = next.cause.later in omega (arith, one, two);
-      cause = λ fault. rose_since _ _ _ first.cause.later (next.cause.cause fault);
-    };
-    lasts = next.lasts ∙ first.lasts;
-  }
+  writes_since first next = record { cause = HasCauseOf-earlier _ _ _ _ first.cause.later next.cause; lasts = next.lasts ∙ first.lasts }
 
 pub keeps_all : (taken : Option (List ℕ)) → Keeps taken taken
 keeps_all None = tt

@@ -1,5 +1,6 @@
 -- What a lane has come to, with one frame more.
 use Rattle.std.proofs.Common.{◌≡◌, ◌≢◌, ℕ, ◌+◌, ◌<◌, Bool, true, false, Option, Some, None, List, [], ◌∷◌, ◌++◌, length, take, refl, sym, ap, subst, ◌∙◌, arith, add-zero}
+use Rattle.std.proofs.lemmas.Bool.{and_parts}
 use Rattle.std.proofs.lemmas.List.{map-append}
 use Rattle.std.proofs.lemmas.Grind.{common_steps}
 use Rattle.std.specs.Prelude.{not, ◌&&◌, nat_lt, if◌then◌else◌, Result, Err, is_ok, IsOk}
@@ -21,7 +22,6 @@ use Rattle.capture_replay.specs.Records.{control_at, packets_of, records_of, rec
 use Rattle.run_outcome.specs.Forwarded.{bytes_under as left_by}
 use Rattle.capture_replay.specs.Outcome.{is_forward, is_heavy}
 use Rattle.capture_replay.specs.Reading.{Follows, IsOver, IsRead, IsSeen, gained, is_heavy_so_far, packet_at, packet_of}
-use Rattle.capture_replay.proofs.Following.{both}
 
 -- ---- one frame more
 
@@ -78,7 +78,7 @@ module _ (app : Meaning) (script : List Stamped) where
   not-true false is = refl
 
   pub heavy_is_kept : (output : Output) (frames : List Captured) → is_heavy app script (packets_of script) output frames ≡ true → is_forward output ≡ false
-  heavy_is_kept output frames heavy = not-true (is_forward output) (both (not (is_forward output)) (nat_lt 134217728 (weight (records_of app script (packets_of script) frames))) heavy).0
+  heavy_is_kept output frames heavy = not-true (is_forward output) (and_parts (not (is_forward output)) (nat_lt 134217728 (weight (records_of app script (packets_of script) frames))) heavy).0
 
   -- whether it is too heavy at the end
   pub over_at_end : (output : Output) (frames : List Captured) → not (is_forward output) ≡ true
@@ -102,12 +102,12 @@ module _ (app : Meaning) (script : List Stamped) where
       → 134217728 < weight (records_of app script (packets_of script) frames)
   weighs_at_end output frames heavy =
       is_over (weight (records_of app script (packets_of script) frames))
-      (both (not (is_forward output)) (nat_lt 134217728 (weight (records_of app script (packets_of script) frames))) heavy).1
+      (and_parts (not (is_forward output)) (nat_lt 134217728 (weight (records_of app script (packets_of script) frames))) heavy).1
 
   -- what is too heavy before the end is so at the end
   pub heavy_at_end : WeightNeverFalls → (output : Output) (frames : List Captured) → is_heavy_so_far app script output frames ≡ true → is_heavy app script (packets_of script) output frames ≡ true
   heavy_at_end falls output frames heavy =
-      let parts = both (not (is_forward output)) (nat_lt 134217728 (weight (records_so_far app script (packets_of script) frames))) heavy in
+      let parts = and_parts (not (is_forward output)) (nat_lt 134217728 (weight (records_so_far app script (packets_of script) frames))) heavy in
       let more = falls.at_end app (control_at app script) (greatest (arrivals 0 frames)) (records_so_far app script (packets_of script) frames) in
       let was = is_over (weight (records_so_far app script (packets_of script) frames)) parts.1 in
       over_at_end output frames parts.0 (omega (arith, was, more))
@@ -116,7 +116,7 @@ module _ (app : Meaning) (script : List Stamped) where
   pub still_heavy : LastPacketIsAdded → WeightNeverFalls → (output : Output) (frames : List Captured) (frame : Captured)
       → is_heavy_so_far app script output frames ≡ true → is_heavy_so_far app script output (frames ++ frame ∷ []) ≡ true
   still_heavy law falls output frames frame heavy =
-      let parts = both (not (is_forward output)) (nat_lt 134217728 (weight (records_so_far app script (packets_of script) frames))) heavy in
+      let parts = and_parts (not (is_forward output)) (nat_lt 134217728 (weight (records_so_far app script (packets_of script) frames))) heavy in
       let more = falls.packet app (control_at app script) (packet_of script (length frames) frame) (records_so_far app script (packets_of script) frames) in
       let was = is_over (weight (records_so_far app script (packets_of script) frames)) parts.1 in
       let now : 134217728 < weight (added app (control_at app script) (packet_of script (length frames) frame) (records_so_far app script (packets_of script) frames)) = omega (arith, was, more) in

@@ -1,7 +1,6 @@
 -- What a record that can't be read is refused as.
-use Rattle.std.proofs.Common.{◌≡◌, ℕ, ◌≤◌, Result, Err, refl, sym, ◌∙◌, arith, inl, inr}
+use Rattle.std.proofs.Common.{◌≡◌, Result, Err, refl, sym, ◌∙◌, inl, inr}
 use Rattle.std.specs.Prelude.{◌⊎◌}
-use Rattle.mos_bytes.specs.Causes.{Rose}
 use Rattle.pcap_source.specs.declared.errors.NextError.{NextError}
 use Rattle.pcap_source.specs.declared.errors.NextError.TheVariants as Next
 use Rattle.capture_replay.specs.declared.refusal.ReplayError.{ReplayError}
@@ -22,10 +21,6 @@ no_write_fault Next.NoMemory is = cc
 
 pub same_error : {T : Type 0} (a b : ReplayError) (r : Result T ReplayError) → r ≡ Err a → r ≡ Err b → a ≡ b
 same_error a b r one two = cc
-
-pub rose_since : (before mid now : ℕ) → before ≤ mid → Rose mid now → Rose before now
-rose_since before mid now less (inl rose) = inl (omega (arith, rose, less))
-rose_since before mid now less (inr full) = inr full
 
 -- ---- what stops a packet
 

@@ -1,5 +1,5 @@
 -- Only for proofs. What a run has come to after the frames of a capture, under a script.
-use Rattle.std.specs.Prelude.{◌≡◌, ◌≢◌, ℕ, ◌<◌, ◌≤◌, Bool, true, false, not, ◌&&◌, List, [], ◌++◌, length, take, drop, nat_lt, if◌then◌else◌, Option, None, Some, Result, Ok, Err, IfErr, IsErr, IsErrOf, IsOk, IsTrue}
+use Rattle.std.specs.Prelude.{◌≡◌, ◌≢◌, ℕ, ◌<◌, ◌≤◌, Bool, true, false, not, ◌&&◌, List, [], ◌++◌, length, take, nat_lt, if◌then◌else◌, Option, None, Some, Result, Ok, Err, IfErr, IsErr, IsErrOf, IsOk, IsTrue}
 use Rattle.std.specs.Io.KnownBytes.{Appends}
 use Rattle.mos_bytes.specs.declared.source.Source.{Ghosts as Source}
 use Rattle.mos_bytes.specs.declared.sink.Sink.{Ghosts as Sink}
@@ -9,7 +9,6 @@ use Rattle.app_api.specs.App.{Meaning}
 use Rattle.pcap_source.specs.Captured.{Captured}
 use Rattle.pcap_source.specs.Capture.{Frames, capture_of}
 use Rattle.pcap_source.specs.Reading.{CaptureState, frames_at}
-use Rattle.forest_versions.specs.State.{ControlState, control as control_after}
 use Rattle.control_script.specs.declared.stamped.Stamped.{Stamped}
 use Rattle.control_script.specs.Order.{commands_of}
 use Rattle.control_script.specs.Versions.{ceil}
@@ -20,6 +19,7 @@ use Rattle.lane_core.specs.Run.{LaneEvent, versioned_from, commands_of as given_
 use Rattle.lane_core.specs.Shown.{weight}
 use Rattle.lane_core.specs.Lane.{IsAfter}
 use Rattle.lane_core.specs.declared.recorder.Recorder.{Ghosts as Recorder}
+use Rattle.lane_worker.specs.Given.{IsUnder}
 use Rattle.capture_replay.specs.declared.output.Output.{Output}
 use Rattle.capture_replay.specs.declared.output.Output.TheVariants.{Report}
 use Rattle.capture_replay.specs.declared.progress.Progress.{Progress}
@@ -45,17 +45,6 @@ pub record IsSeen (frame : Captured) (moment : Moment) (head bytes : List ℕ) :
   pub moment_is : moment ≡ record { seconds = frame.seconds; fraction = frame.fraction }
   pub head_is : head ≡ frame.head
   pub bytes_is : bytes ≡ frame.bytes
-
--- so many commands of the script were given, and this is in force
-pub record IsUnder (app : Meaning) (script : List Stamped) (given : ℕ) (control : ControlState) : Type 0 where
-  pub within : given ≤ length script
-  pub in_force : control ≡ control_after app.presets (take given (commands_of script))
-
--- the lane may take the packet of a number
-pub record IsReady (app : Meaning) (script : List Stamped) (given : ℕ) (control : ControlState) (last : Option ℕ) (number : ℕ) : Type 0 where
-  pub under : IsUnder app script given control
-  pub before : given ≤ ceil script number
-  pub after : IsAfter last number
 
 -- a lane stands for these packets, and for so many commands of the script
 pub record Follows (script : List Stamped) (given : ℕ) (stands : List LaneEvent → Type 0) (ps : List VersionedPacket) : Type 0 where
@@ -86,38 +75,22 @@ pub record SameLane {L : Type 0} (g : Recorder L) (old new : L) : Type 0 where
 
 -- the same of a lane
 module _ {L : Type 0} (g : Recorder L) (script : List Stamped) where
-  abbrev pub LaneIsUnder : L → Type 0
-  LaneIsUnder lane = IsUnder (g.app lane) script (g.given lane) (g.control lane)
-
-  abbrev pub LaneIsReady : L → ℕ → Type 0
-  LaneIsReady lane number = IsReady (g.app lane) script (g.given lane) (g.control lane) (g.last lane) number
-
   abbrev pub LaneFollows : L → List VersionedPacket → Type 0
   LaneFollows lane ps = Follows script (g.given lane) (g.stands lane) ps
 
   abbrev pub LaneHasRead : Output → L → List Captured → Type 0
   LaneHasRead output lane frames = IsRead (g.app lane) script output (g.given lane) (g.failed lane) (g.stands lane) frames
 
-  -- it may run under the script, and take the packet of a number
+  -- it may take the packet of a number
+  pub record LaneIsReady (lane : L) (number : ℕ) : Type 0 where
+    pub under : IsUnder g (commands_of script) lane
+    pub before : g.given lane ≤ ceil script number
+    pub after : IsAfter (g.last lane) number
+
+  -- and run under the script
   pub record MayTake (lane : L) (number : ℕ) : Type 0 where
     pub lawful : MayRun (g.app lane) script
     pub ready : LaneIsReady lane number
-
-  -- one that hasn't failed may take the script's commands up to a version
-  pub record MayCatchUp (lane : L) (version : ℕ) : Type 0 where
-    pub good : g.failed lane ≡ None
-    pub lawful : MayRun (g.app lane) script
-    pub under : LaneIsUnder lane
-    pub before : g.given lane ≤ version
-
-  -- it took them, where the call is done: it follows the packets that it followed before
-  pub record CatchesUp (old new : L) (version : ℕ) (done : Type 0) : Type 0 where
-    pub good : done → g.failed new ≡ None
-    pub given : done → g.given new ≡ version
-    pub under : done → LaneIsUnder new
-    pub follows : done → (ps : List VersionedPacket) → LaneFollows old ps → LaneFollows new ps
-    pub newest : g.last new ≡ g.last old
-    pub same : SameLane g old new
 
 -- what one frame more adds to what is written while the capture is read
 abbrev pub gained : Meaning → List Stamped → Output → List Captured → Captured → List ℕ
@@ -136,11 +109,6 @@ pub record Replaying (bytes : List ℕ) (left : Option (List ℕ)) (capture : Ca
   pub told : left ≡ Some rest
   pub holds : capture_of bytes ≡ Ok (behind frames (frames_at capture rest))
   pub header : capture.header ≡ take 24 bytes
-
--- what bytes are left behind so many, where they are told
-abbrev pub left_behind : ℕ → Option (List ℕ) → Option (List ℕ)
-left_behind n None = None
-left_behind n (Some left) = Some (drop n left)
 
 -- no packet has been read
 abbrev pub at_start : Progress

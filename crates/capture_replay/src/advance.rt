@@ -1,58 +1,34 @@
 //! A lane under a script: before each packet it takes the commands that the packet may see.
 
-ghost use Rattle.std.specs.Prelude.{◌≡◌, ◌≢◌, ◌+◌, ◌<◌, ◌≤◌, [], ◌∷◌, ◌++◌, List, length, true, None, Err, IsOk, OnOk, IfOk};
+ghost use Rattle.std.specs.Prelude.{◌≡◌, ◌≢◌, ◌+◌, ◌<◌, ◌≤◌, [], ◌∷◌, ◌++◌, List, length, true, None, Err, OnOk, IfOk};
 ghost use Rattle.lane_core.specs.Records.{VersionedPacket, records, verdict_on};
 ghost use Rattle.lane_core.specs.Sight.{arrival_at};
 ghost use Rattle.control_script.specs.Versions.{ceil};
 ghost use Rattle.capture_replay.specs.Records.{control_at};
-ghost use Rattle.capture_replay.specs.Reading.{CatchesUp, LaneIsReady, LaneFollows, IsOver, MayCatchUp, MayTake, SameLane, packet_at};
+ghost use Rattle.capture_replay.specs.Reading.{LaneIsReady, LaneFollows, IsOver, MayTake, SameLane, packet_at};
 
 use app_api::Verdict;
 use control_script::Script;
 use flow_timers::Moment;
-use lane_core::laws::{last_packet_is_added, later_commands_change_none, one_event_more};
+use lane_core::laws::{later_commands_change_none, one_event_more};
 use lane_core::{LaneError, Recorder};
+use lane_worker::give_commands;
 use native_filters::NativeBook;
-use std::alloc::{AllocError, Global};
+use std::alloc::Global;
 
-// Gives the lane the commands of the script up to a version.
-fn give<L: Recorder>(
-    alloc: Global,
-    script: &Script,
-    lane: &mut L,
-    version: u32,
-) -> Result<(), AllocError>
-    requires may { MayCatchUp L.Recorder script.now lane.old version }
-    requires within { version ≤ length script.now }
-    requires few { version ≤ 4096 }
-    ensures { CatchesUp L.Recorder script.now lane.old lane.new version (IsOk result) }
+// How many commands a packet may see. Where the lane has the whole script, nothing is looked up.
+#[inline(always)]
+fn ceiling_of<L: Recorder>(lane: &L, script: &Script, number: u64) -> u32
+    requires before { L.given lane.now ≤ ceil script.now number }
+    ensures ceil { result ≡ ceil script.now number }
+    ensures within { result ≤ length script.now }
+    ensures most { result ≤ 4096 }
 {
-    one_event_more();
-    while lane.version() < version {
-        let Some(command) = script.command(lane.version()) else {
-            break;
-        };
-        if lane.command(alloc, command).is_err() {
-            return Err(AllocError);
-        }
+    let given = lane.version();
+    if given >= script.len() {
+        return given;
     }
-    Ok(())
-}
-
-// Gives the lane the commands that a packet may see. Where it has the whole script, nothing is looked up.
-fn catch_up<L: Recorder>(
-    alloc: Global,
-    script: &Script,
-    lane: &mut L,
-    number: u64,
-) -> Result<(), AllocError>
-    requires may { MayCatchUp L.Recorder script.now lane.old (ceil script.now number) }
-    ensures { CatchesUp L.Recorder script.now lane.old lane.new (ceil script.now number) (IsOk result) }
-{
-    if lane.version() >= script.len() {
-        return Ok(());
-    }
-    give(alloc, script, lane, script.ceil(number))
+    script.ceil(number)
 }
 
 /// One packet more, by its time and its captured bytes, behind the commands up to its ceiling.
@@ -91,9 +67,7 @@ pub(crate) fn advance<L: Recorder>(
 {
     one_event_more();
     later_commands_change_none();
-    last_packet_is_added();
-    if catch_up(alloc, script, lane, number).is_err() {
-        return Err(LaneError::NoMemory);
-    }
+    let ceiling = ceiling_of(lane, script, number);
+    give_commands(alloc, lane, script, ceiling)?;
     lane.packet_at(alloc, number, moment, bytes, natives)
 }

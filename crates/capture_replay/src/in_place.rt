@@ -3,8 +3,9 @@
 ghost use Rattle.std.specs.Prelude.{◌≡◌, ◌⊎◌, ◌≤◌, ℕ, List, Option, length, true, false, IfOk, IfErr, IsErrOf};
 ghost use Rattle.mos_bytes.specs.Outside.{Writes};
 ghost use Rattle.mos_bytes.specs.Reads.{BeginsWith};
+ghost use Rattle.pcap_source.specs.InPlace.{left_behind};
 ghost use Rattle.capture_replay.specs.Outcome.{is_forward};
-ghost use Rattle.capture_replay.specs.Reading.{BreaksOff, GoesOn, MayReadOn, RunsOn, StopsAt, left_behind, run_at};
+ghost use Rattle.capture_replay.specs.Reading.{BreaksOff, GoesOn, MayReadOn, RunsOn, StopsAt, run_at};
 
 use crate::ReplayError;
 use crate::plan::Plan;

@@ -118,10 +118,7 @@ pub read_all : (frames : List Captured) (capture : CaptureState) (old new : Opti
 read_all frames capture old new (Ok whole) ok stops rest is = (stops.holds rest is).1
 read_all frames capture old new (Err e) ok stops rest is = absurd (cc)
 
--- a count that rose has risen also from an earlier moment, and to a later one
-pub rose_after : (a b d : ℕ) → a ≤ b → Rose b d → Rose a d
-rose_after a b d later rose = ⊎_elim (λ more. inl (omega (arith, later, more))) (λ full. inr full) rose
-
+-- a count that rose has risen also to a later moment
 pub rose_before : (a b d : ℕ) → Rose a b → b ≤ d → Rose a d
 rose_before a b d rose later = ⊎_elim (λ more. inl (omega (arith, later, more))) (λ full. inr (omega (arith, later, full))) rose
 

@@ -1,9 +1,9 @@
 pub mod Fronts
 pub mod Rings
-mod Commands
 mod Stepping
 mod Going
 pub mod Composed
+mod Taking
 mod Advancing
 mod Turns
 mod Serving

@@ -16,9 +16,10 @@ use Rattle.lane_core.specs.declared.recorder.Recorder.{Ghosts}
 use Rattle.lane_core.specs.declared.errors.LaneError.{LaneError}
 use Rattle.lane_worker.specs.declared.worker.Worker.{Worker}
 use Rattle.lane_worker.specs.Steps.{Handed, fits, events_of, answer_to}
-use Rattle.lane_worker.specs.Worked.{Takes, Sends, IsReady, Ran}
-use Rattle.lane_worker.specs.Turning.{IsUnder, Turned, TookUp}
-use Rattle.lane_worker.proofs.Commands.{take-two}
+use Rattle.lane_worker.specs.Worked.{Takes, Sends, IsReady}
+use Rattle.lane_worker.specs.Given.{IsUnder}
+use Rattle.lane_worker.specs.Turning.{Turned, TookUp}
+use Rattle.lane_worker.proofs.Fronts.{take-two}
 use Rattle.lane_worker.proofs.Rings.{takes_none, taken_more, SameAnswers-refl, sends_none, sends_same}
 use Rattle.lane_worker.proofs.Stepping.{commands-append, given_by}
 

@@ -36,38 +36,41 @@ module _ {L : Type 0} (g : Ghosts L) (script : List Command) (a : L) (from : Rin
 
   -- the lane failed at a command
   module _ (b : L) (to : RingRx ℕ) (adv : Advanced g script a b from to) (e : LaneError) (failed : g.failed b ≡ Some e) where
-    took_two : map Took adv.done ++ map Took adv.bad ≡ map Took (adv.done ++ adv.bad)
-    took_two = sym (map-append Took adv.done adv.bad)
+    abbrev tried : List Command
+    tried = adv.commands.done ++ adv.commands.bad
 
-    went_back : WentOn g script (g.given a + length (known from)) (turn (adv.done ++ adv.bad)) a b (map Took adv.done) (map Took adv.bad)
+    took_two : map Took adv.commands.done ++ map Took adv.commands.bad ≡ map Took tried
+    took_two = sym (map-append Took adv.commands.done adv.commands.bad)
+
+    went_back : WentOn g script (g.given a + length (known from)) (turn tried) a b (map Took adv.commands.done) (map Took adv.commands.bad)
     went_back = record {
-      stands = λ events s. subst (λ l. g.stands b (events ++ l)) (sym (ap events_of took_two ∙ events-took (adv.done ++ adv.bad))) (adv.stands events s);
+      stands = λ events s. subst (λ l. g.stands b (events ++ l)) (sym (ap events_of took_two ∙ events-took tried)) (adv.commands.stands events s);
       commands = subst (λ l. IsPrefix l (drop (g.given a) script))
-          (sym (ap given_by (took_two ∙ sym (append-nil (map Took (adv.done ++ adv.bad)))) ∙ given-took (adv.done ++ adv.bad) [] ∙ append-nil (adv.done ++ adv.bad))) adv.commands;
-      within = subst (AreWithin (g.given a + length (known from)) (g.given a)) (append-nil (map Took (adv.done ++ adv.bad)) ∙ sym took_two)
-          (within-took (g.given a + length (known from)) (g.given a) (adv.done ++ adv.bad) [] tt);
-      newest = adv.newest ∙ sym (ap (λ l. last_number (g.last a) (events_of l)) (took_two ∙ sym (append-nil (map Took (adv.done ++ adv.bad)))) ∙ last-took (g.last a) (adv.done ++ adv.bad) []);
+          (sym (ap given_by (took_two ∙ sym (append-nil (map Took tried))) ∙ given-took tried [] ∙ append-nil tried)) adv.commands.next;
+      within = subst (AreWithin (g.given a + length (known from)) (g.given a)) (append-nil (map Took tried) ∙ sym took_two)
+          (within-took (g.given a + length (known from)) (g.given a) tried [] tt);
+      newest = adv.commands.newest ∙ sym (ap (λ l. last_number (g.last a) (events_of l)) (took_two ∙ sym (append-nil (map Took tried))) ∙ last-took (g.last a) tried []);
       good = λ ok. absurd (cc);
       whole = λ ok. absurd (cc);
       version = λ ok. absurd (cc);
-      one = λ bad. length-map adv.bad Took ∙ adv.one bad;
-      front = λ bad. subst (λ l. IsPrefix l (steps_of (length script) (g.last a) (g.given a) (turn (adv.done ++ adv.bad)))) (sym took_two)
-          (subst (IsPrefix (map Took (adv.done ++ adv.bad))) (sym (steps_whole (adv.done ++ adv.bad))) (Handed p ∷ [], refl));
-      keeping = λ is. absurd (adv.light is);
-      heavy = λ is. absurd (adv.light is);
+      one = λ bad. length-map adv.commands.bad Took ∙ adv.commands.one bad;
+      front = λ bad. subst (λ l. IsPrefix l (steps_of (length script) (g.last a) (g.given a) (turn tried))) (sym took_two)
+          (subst (IsPrefix (map Took tried)) (sym (steps_whole tried)) (Handed p ∷ [], refl));
+      keeping = λ is. absurd (adv.commands.light is);
+      heavy = λ is. absurd (adv.commands.light is);
     }
 
     pub turned_back : (r : Result Verdict LaneError) → ((v : Verdict) → r ≡ Ok v → ⊥) → Turned g script a b from to p r
     turned_back r none = record {
-      turn = adv.done ++ adv.bad;
-      done = map Took adv.done;
-      bad = map Took adv.bad;
+      turn = tried;
+      done = map Took adv.commands.done;
+      bad = map Took adv.commands.bad;
       places = adv.places;
       took = adv.took;
       went = went_back;
       of_places = λ ok. absurd (cc);
       answered = λ v ok. absurd (none v ok);
-      silent = λ error bad events s. answers-took (g.app a) events adv.done;
+      silent = λ error bad events s. answers-took (g.app a) events adv.commands.done;
     }
 
   -- the lane took all commands, and then the packet
@@ -76,13 +79,13 @@ module _ {L : Type 0} (g : Ghosts L) (script : List Command) (a : L) (from : Rin
       (stands : (events : List LaneEvent) → g.stands b events → g.stands c (with_event (Arrived (arrival_of p.index p.frame)) events)) (newest : g.last c ≡ Some p.index)
       (version : g.given c ≡ g.given b) where
     abbrev cs : List Command
-    cs = adv.done
+    cs = adv.commands.done
 
     abbrev here : LaneEvent
     here = Arrived (arrival_of p.index p.frame)
 
-    all_done : adv.done ++ adv.bad ≡ adv.done
-    all_done = ap (λ l. adv.done ++ l) (adv.good well) ∙ append-nil adv.done
+    all_done : cs ++ adv.commands.bad ≡ cs
+    all_done = ap (λ l. cs ++ l) (adv.commands.good well) ∙ append-nil cs
 
     events_whole : events_of (whole cs) ≡ map Gave cs ++ here ∷ []
     events_whole = events-append (map Took cs) (Handed p ∷ []) ∙ ap (λ l. l ++ here ∷ []) (events-took cs)
@@ -91,7 +94,7 @@ module _ {L : Type 0} (g : Ghosts L) (script : List Command) (a : L) (from : Rin
     given_whole = given-took cs (Handed p ∷ []) ∙ append-nil cs
 
     stands_before : (events : List LaneEvent) → g.stands a events → g.stands b (events ++ map Gave cs)
-    stands_before events s = subst (λ l. g.stands b (events ++ map Gave l)) all_done (adv.stands events s)
+    stands_before events s = subst (λ l. g.stands b (events ++ map Gave l)) all_done (adv.commands.stands events s)
 
     events_behind : (events : List LaneEvent) → (events ++ map Gave cs) ++ here ∷ [] ≡ events ++ events_of (whole cs)
     events_behind events = append_assoc events (map Gave cs) (here ∷ []) ∙ ap (λ l. events ++ l) (sym events_whole)
@@ -103,14 +106,14 @@ module _ {L : Type 0} (g : Ghosts L) (script : List Command) (a : L) (from : Rin
         let did_all : g.failed c ≡ None → did ≡ whole cs = λ ok. sym (append-nil did) ∙ ap (λ l. did ++ l) (sym (good ok)) ∙ all in
         record {
           stands = λ events s. subst (λ l. g.stands c (events ++ events_of l)) (sym all) (subst (g.stands c) (events_behind events) (stands (events ++ map Gave cs) (stands_before events s)));
-          commands = subst (λ l. IsPrefix l (drop (g.given a) script)) (all_done ∙ sym given_whole ∙ ap given_by (sym all)) adv.commands;
+          commands = subst (λ l. IsPrefix l (drop (g.given a) script)) (all_done ∙ sym given_whole ∙ ap given_by (sym all)) adv.commands.next;
           within = subst (AreWithin (g.given a + length (known from)) (g.given a)) (sym all)
               (within-took (g.given a + length (known from)) (g.given a) cs (Handed p ∷ [])
-              (let at = adv.version well in (record { floor = omega (arith, at, floor); ceil = omega (arith, at, ceil); known = omega (arith, at, all_known) }, tt)));
+              (let at = adv.commands.version well in (record { floor = omega (arith, at, floor); ceil = omega (arith, at, ceil); known = omega (arith, at, all_known) }, tt)));
           newest = newest ∙ sym (ap (λ l. last_number (g.last a) (events_of l)) all ∙ last-took (g.last a) cs (Handed p ∷ []));
           good = good;
           whole = λ ok. did_all ok ∙ sym (steps_whole cs);
-          version = λ ok. version ∙ adv.version well ∙ ap (λ l. g.given a + length l) (sym given_whole ∙ ap given_by (sym (did_all ok)));
+          version = λ ok. version ∙ adv.commands.version well ∙ ap (λ l. g.given a + length l) (sym given_whole ∙ ap given_by (sym (did_all ok)));
           one = one;
           front = λ bad_one. subst (λ l. IsPrefix l (steps_of (length script) (g.last a) (g.given a) (turn cs))) (sym all)
               (subst (IsPrefix (whole cs)) (sym (steps_whole cs)) (IsPrefix-refl (whole cs)));
@@ -134,7 +137,7 @@ module _ {L : Type 0} (g : Ghosts L) (script : List Command) (a : L) (from : Rin
       answered = λ w is events s.
           let same : v ≡ w = cc in
           answers-took-then (g.app a) events cs (Handed p ∷ [])
-          ∙ ap (λ (m : Meaning). answer_to p (next_verdict m (events ++ map Gave cs) (arrival_of p.index p.frame)) ∷ []) (sym adv.app)
+          ∙ ap (λ (m : Meaning). answer_to p (next_verdict m (events ++ map Gave cs) (arrival_of p.index p.frame)) ∷ []) (sym adv.commands.app)
           ∙ ap (λ x. answer_to p x ∷ []) (sym (verdict (events ++ map Gave cs) (stands_before events s)) ∙ same);
       silent = λ e is. absurd (cc);
     }
@@ -147,8 +150,8 @@ module _ {L : Type 0} (g : Ghosts L) (script : List Command) (a : L) (from : Rin
           places = adv.places;
           took = adv.took;
           went = went_whole (map Took cs) (Handed p ∷ []) refl (λ is. absurd (cc)) (λ bad. refl)
-              (λ is. sym adv.keeps ∙ (heavy (ap Err (heavy_is is))).0)
-              (λ is events s. subst (λ (m : Meaning). IsHeavy m (with_event here events)) adv.app ((heavy (ap Err (heavy_is is))).1 events s));
+              (λ is. sym adv.commands.keeps ∙ (heavy (ap Err (heavy_is is))).0)
+              (λ is events s. subst (λ (m : Meaning). IsHeavy m (with_event here events)) adv.commands.app ((heavy (ap Err (heavy_is is))).1 events s));
           of_places = λ is. absurd (cc);
           answered = λ v is. absurd (cc);
           silent = λ error is events s. answers-took (g.app a) events cs;

@@ -1,3 +1,4 @@
 pub mod Steps
 pub mod Worked
+pub mod Given
 pub mod Turning

@@ -4,9 +4,10 @@
 //! `work` takes a packet out of its ring, takes the places in the script that it needs (`src/places.rt`), hands it to the lane
 //! (`src/turn.rt`) and sends it on with the verdict, or back for its memory (`src/ends.rt`). `work_off` does the same in place
 //! with what is left in a ring once its thread has ended. A thread that waits spins at first, and then sleeps for longer and
-//! longer (`src/backoff.rt`). One that works keeps memory at hand (`src/at_hand.rt`).
+//! longer (`src/backoff.rt`). One that works keeps memory at hand (`src/at_hand.rt`). How a lane takes the commands of a script
+//! is one law for all runs, also for one without rings (`src/commands.rt`).
 //! Contract: one relation between the worker handed in and the one handed back, which composes: what two calls did is what one
-//! longer call does.
+//! longer call does. `give_commands` has a relation of its own, between the lane before and after it (`specs/Given.antt`).
 //! Begin with `specs/Steps.antt` and `specs/Worked.antt`, then `work` in `src/worker.rt`; `proofs/Composed.antt` shows that the
 //! relation composes.
 //! Tests: `worker_tests` (workers).
@@ -14,6 +15,7 @@
 
 mod at_hand;
 mod backoff;
+mod commands;
 mod context;
 mod ends;
 mod gate;
@@ -24,6 +26,7 @@ mod worker;
 
 pub use at_hand::keep_at_hand;
 pub use backoff::Backoff;
+pub use commands::give_commands;
 pub use context::WorkerContext;
 pub use gate::{Gate, OpenGate};
 pub use left::work_off;

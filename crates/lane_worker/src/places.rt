@@ -1,37 +1,20 @@
 //! Places of a command ring: for each, the lane takes the script's next command.
 
-ghost use Rattle.std.specs.Prelude.{◌≡◌, ◌≢◌, ◌+◌, ◌<◌, ◌≤◌, min, length, None, Some, IsTrue, OnOk, IfErr, true, false};
+ghost use Rattle.std.specs.Prelude.{◌≡◌, ◌+◌, ◌<◌, ◌≤◌, min, length, None, Some, IsTrue, OnOk, IfErr, true, false};
 ghost use Rattle.forest_versions.specs.Lawful.{are_lawful};
 ghost use Rattle.forest_versions.specs.State.{start};
 ghost use Rattle.control_script.specs.Order.{commands_of};
 ghost use Rattle.lane_rings.specs.Ring.{known};
-ghost use Rattle.lane_worker.specs.Turning.{IsUnder, Advanced, TakesNext};
+ghost use Rattle.lane_worker.specs.Given.{IsUnder};
+ghost use Rattle.lane_worker.specs.Turning.{Advanced};
 
 use crate::backoff::Backoff;
+use crate::commands::give_next;
 use crate::context::WorkerContext;
 use crate::ends::take_from;
-use control_script::Script;
 use lane_core::{LaneError, Recorder};
 use lane_rings::CommandRx;
-use std::alloc::Global;
 use std::sync::Wait;
-
-// Gives the lane the script's next command.
-fn give_next<L: Recorder>(alloc: Global, lane: &mut L, script: &Script) -> Result<(), LaneError>
-    requires good { L.failed lane.old ≡ None }
-    requires lawful { IsTrue (are_lawful (start (L.app lane.old).presets) (commands_of script.now)) }
-    requires under { IsUnder L.Recorder (commands_of script.now) lane.old }
-    requires more { L.given lane.old < length script.now }
-    requires few { L.given lane.old < 4096 }
-    ensures next { TakesNext L.Recorder (commands_of script.now) lane.old lane.new }
-    ensures ok { OnOk result (L.failed lane.new ≡ None) }
-    ensures fails { IfErr result (λ e. L.failed lane.new ≡ Some e) }
-{
-    match script.command(lane.version()) {
-        Some(command) => lane.command(alloc, command),
-        None => unreachable!(),
-    }
-}
 
 // Whether a lane has all the commands that a packet of this ceiling may see.
 fn has_all<L: Recorder>(lane: &L, ceil: u32) -> bool

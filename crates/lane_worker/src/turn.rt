@@ -5,8 +5,9 @@ ghost use Rattle.forest_versions.specs.Lawful.{are_lawful};
 ghost use Rattle.forest_versions.specs.State.{start};
 ghost use Rattle.control_script.specs.Order.{commands_of};
 ghost use Rattle.lane_rings.specs.Places.{lent};
+ghost use Rattle.lane_worker.specs.Given.{IsUnder};
 ghost use Rattle.lane_worker.specs.Steps.{fits, is_behind};
-ghost use Rattle.lane_worker.specs.Turning.{IsUnder, Turned};
+ghost use Rattle.lane_worker.specs.Turning.{Turned};
 
 use crate::context::WorkerContext;
 use crate::places::take_places;

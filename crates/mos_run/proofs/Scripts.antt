@@ -1,8 +1,7 @@
 -- The script of a text: where none is named it has no commands, and its commands are in order.
 use Rattle.std.proofs.Common.{◌≡◌, ◌≢◌, ℕ, Bool, true, false, List, [], ◌∷◌, ◌++◌, length, Option, Some, None, Result, Ok, Err, refl, ap, subst, ◌∙◌}
-use Rattle.std.specs.Prelude.{◌||◌, not, nat_le, nat_lt, if◌then◌else◌}
-use Rattle.std.specs.List.{list_any, list_all}
-use Rattle.std.proofs.lemmas.List.Folds.{list_all-append}
+use Rattle.std.specs.Prelude.{nat_le, nat_lt, if◌then◌else◌}
+use Rattle.std.specs.List.{list_any}
 use Rattle.app_api.specs.declared.registration.Reg.{Reg}
 use Rattle.forest_versions.specs.declared.refusal.Refusal.{Refusal}
 use Rattle.forest_versions.specs.Lawful.{refusal}
@@ -13,11 +12,11 @@ use Rattle.control_script.specs.declared.stamped.Stamped.{Stamped}
 use Rattle.control_script.specs.Lines.{lines, without_return, is_skipped, next_line}
 use Rattle.control_script.specs.Order.{commands_of, is_later, are_in_order}
 use Rattle.control_script.specs.Script.{said, joined, admitted_said, line_read, then_lines, lines_read, script}
+use Rattle.control_script.proofs.Marks.{in_order-more}
 use Rattle.app_api.specs.App.{Meaning}
 use Rattle.mos_run.specs.declared.refusal.RunError.TheVariants as Run
 use Rattle.mos_run.specs.Refusal.{script_refusal}
 use Rattle.mos_run.specs.Script.{commands_in, read_as}
-use Rattle.capture_replay.proofs.Following.{both}
 
 -- no text has no commands
 empty_script : (presets : List Reg) → script [] presets ≡ Ok []
@@ -40,18 +39,6 @@ never_refused text presets (Text.StampOrder line) none is = absurd (not_both (sc
 
 -- ---- the order of a script's commands
 
-neither : (a b : Bool) → (a || b) ≡ false → (a ≡ false) × (b ≡ false)
-neither true b none = absurd (cc)
-neither false b none = (refl, none)
-
--- one command more that is no earlier than those before it
-order-more : (before : List Stamped) (s : Stamped) → are_in_order before ≡ true → list_any (λ b. is_later b.stamp s.stamp) before ≡ false → are_in_order (before ++ s ∷ []) ≡ true
-order-more [] s ordered none = refl
-order-more (b ∷ before) s ordered none =
-    let first = neither (is_later b.stamp s.stamp) (list_any (λ b. is_later b.stamp s.stamp) before) none in
-    let parts = both (list_all (λ t. not (is_later b.stamp t.stamp)) before) (are_in_order before) ordered in
-    rw (list_all-append (λ t. not (is_later b.stamp t.stamp)) before (s ∷ []), parts.0, first.0, order-more before s parts.1 first.1) refl
-
 admitted-by : (n : ℕ) (before after : List Stamped) (s : Stamped) (full late : Bool) (fault : Option Refusal) → (late ≡ false → are_in_order (before ++ s ∷ []) ≡ true)
     → (if full then Err (Text.TooMany n) else if late then Err (Text.StampOrder n) else joined n before s fault) ≡ Ok after → are_in_order after ≡ true
 admitted-by n before after s true late fault more is = absurd (cc)
@@ -64,7 +51,7 @@ line-by : (presets : List Reg) (n : ℕ) (before after : List Stamped) (skipped 
 line-by presets n before after true said ordered is = let same : before ≡ after = cc in subst (λ l. are_in_order l ≡ true) same ordered
 line-by presets n before after false (Ok s) ordered is =
     admitted-by n before after s (nat_le 4096 (length before)) (list_any (λ b. is_later b.stamp s.stamp) before) (refusal (control presets (commands_of before)) s.command)
-    (order-more before s ordered) is
+    (in_order-more before s ordered) is
 line-by presets n before after false (Err e) ordered is = absurd (cc)
 
 lines-order : (presets : List Reg) (n : ℕ) (ls : List (List ℕ)) (before after : List Stamped) → are_in_order before ≡ true → lines_read presets n ls before ≡ Ok after → are_in_order after ≡ true

@@ -1,11 +1,13 @@
 use Rattle.std.proofs.Common.{◌≡◌, Err, ap, subst, ◌∙◌, rules}
 use Rattle.std.proofs.lemmas.Result.{err_from_is_err_and}
+use Rattle.pcap_source.specs.InPlace.{left_behind}
+use Rattle.worker_pool.proofs.Walking.{behind_none, front_within}
 use Rattle.capture_replay.specs.Outcome.{is_forward}
-use Rattle.capture_replay.specs.Reading.{Replaying, left_behind, run_at}
+use Rattle.capture_replay.specs.Reading.{Replaying, run_at}
 use Rattle.capture_replay.specs.Refusal.{record_refusal}
 use Rattle.capture_replay.proofs.Refusals.{is_read_fault, no_read_fault, no_write_fault}
 use Rattle.capture_replay.proofs.Ends.{no_heavy_packet, no_write_packet}
-use Rattle.capture_replay.proofs.InPlace.{behind_none, front_within, light_passing, passed_replays, stopped_passing}
+use Rattle.capture_replay.proofs.InPlace.{light_passing, passed_replays, stopped_passing}
 use Rattle.capture_replay.proofs.Onward.{goes_nowhere, goes_past, keeps_all, reads_as, reads_nothing, stops_behind, stops_here, writes_as}
 use Rattle.capture_replay.proofs.in_place.run_lent.Goals as goal
 

@@ -2,10 +2,12 @@ use Rattle.std.proofs.Common.{◌+◌, Option, None, List, ℕ, Err, drop, refl,
 use Rattle.std.proofs.lemmas.Result.{err_from_is_err_and}
 use Rattle.mos_bytes.specs.Reads.{BeginsWith}
 use Rattle.pcap_source.specs.Capture.{record_at}
+use Rattle.pcap_source.specs.InPlace.{left_behind}
+use Rattle.worker_pool.proofs.Walking.{behind_none, taken_behind}
 use Rattle.capture_replay.specs.declared.refusal.ReplayError.TheVariants as Replay
-use Rattle.capture_replay.specs.Reading.{left_behind, run_at}
+use Rattle.capture_replay.specs.Reading.{run_at}
 use Rattle.capture_replay.proofs.Ends.{err_same}
-use Rattle.capture_replay.proofs.InPlace.{behind_none, seen_behind, taken_behind, told_in}
+use Rattle.capture_replay.proofs.InPlace.{seen_behind, told_in}
 use Rattle.capture_replay.proofs.Onward.{goes_nowhere, goes_past, keeps_all, on_and_on, one_frame, stops_behind, stops_taking, writes_as, writes_since}
 use Rattle.capture_replay.proofs.in_place.walk.Goals as goal
 

@@ -1,6 +1,7 @@
 use Rattle.std.proofs.Common.{ℕ, ◌-◌, ◌≤◌, List, Option, length}
 use Rattle.mos_bytes.specs.Reads.{BeginsWith}
-use Rattle.capture_replay.specs.Reading.{GoesOn, MayReadOn, left_behind, run_at}
+use Rattle.pcap_source.specs.InPlace.{left_behind}
+use Rattle.capture_replay.specs.Reading.{GoesOn, MayReadOn, run_at}
 use Rattle.capture_replay.proofs.in_place.walk.Given as goal
 
 -- the run went on over so many bytes, and may read on

@@ -9,9 +9,7 @@ use Rattle.capture_replay.proofs.Reading.{not_failed, read_still, read_more, rea
 use Rattle.capture_replay.proofs.taking.take_at.Goals as goal
 
 pub returns-then-has_failed-clause-ready : goal.returns-then-has_failed-clause-ready
-returns-then-has_failed-clause-ready g c = λ ok.
-    let lane = c.args.lane.now in
-    ready_still (g.L.Recorder.app lane) c.args.plan.now.script.now (g.L.Recorder.given lane) (g.L.Recorder.control lane) (g.L.Recorder.last lane) c.args.number c.requires.may.ready
+returns-then-has_failed-clause-ready g c = λ ok. ready_still g.L.Recorder c.args.plan.now.script.now c.args.lane.now c.args.number c.requires.may.ready
 
 pub returns-then-has_failed-clause-reads : goal.returns-then-has_failed-clause-reads
 returns-then-has_failed-clause-reads g c = λ ok frame frames seen count read.

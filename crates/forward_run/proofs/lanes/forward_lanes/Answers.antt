@@ -14,7 +14,8 @@ use Rattle.forward_run.specs.Forward.{ForwardsOver}
 use Rattle.forward_dispatch.specs.declared.lane_answers.LaneAnswers.{LaneAnswers}
 use Rattle.forward_dispatch.specs.Streamed.{AreLaneAnswers, Leaves, lane_at, taken_from}
 use Rattle.forward_run.proofs.Stopping.{unread, told_last}
-use Rattle.forward_run.proofs.Forwarding.{run_begins, ended_early, no_fault_early, read_all, rose_before, rose_after}
+use Rattle.mos_bytes.proofs.Causes.{Rose-earlier}
+use Rattle.forward_run.proofs.Forwarding.{run_begins, ended_early, no_fault_early, read_all, rose_before}
 use Rattle.worker_pool.proofs.Source.{reads_less, reads_nothing}
 use Rattle.forward_run.proofs.lanes.forward_lanes.Goals as goal
 
@@ -91,7 +92,7 @@ returns-clause-writes g c =
         later = let e = before.cause.later in omega (arith, e, then);
         cause = λ fault. ⊎_elim
             (λ told. rose_before (g.O.Sink.faults c.args.out.now) (g.O.Sink.faults c.stream_team.new.out) (g.O.Sink.faults c.leave.new.out) (before.cause.cause told) then)
-            (λ rose. rose_after (g.O.Sink.faults c.args.out.now) (g.O.Sink.faults c.stream_team.new.out) (g.O.Sink.faults c.leave.new.out) before.cause.later rose)
+            (λ rose. Rose-earlier (g.O.Sink.faults c.args.out.now) (g.O.Sink.faults c.stream_team.new.out) (g.O.Sink.faults c.leave.new.out) before.cause.later rose)
             (c.leave.ensures.write_fault fault);
       };
       lasts = c.leave.ensures.lasts ∙ before.lasts;

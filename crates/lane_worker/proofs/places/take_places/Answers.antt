@@ -1,6 +1,6 @@
 use Rattle.std.proofs.Common.{◌≡◌, None, arith}
 use Rattle.control_script.specs.Order.{commands_of}
-use Rattle.lane_worker.proofs.Advancing.{advanced_none, advanced_next}
+use Rattle.lane_worker.proofs.Advancing.{advanced_none, advanced_wait, advanced_next}
 use Rattle.lane_worker.proofs.places.take_places.Goals as goal
 
 pub loop-init : goal.loop-init
@@ -24,6 +24,22 @@ loop-preserved-in-Continue-1 g c =
       under = next.under good;
       ceil = let below = c.has_all.ensures.no c.if-has_all.false in let v = next.version good in omega (arith, below, v);
     }
+
+pub loop-preserved : goal.loop-preserved
+loop-preserved g c =
+    let inv = c.loop.invariant in
+    record {
+      good = inv.good;
+      advanced = advanced_wait g.L.Recorder (commands_of c.args.context.now.script.now) c.args.lane.now c.loop.lane c.args.commands.now c.loop.commands c.take_from.new.ring inv.advanced
+          (c.take_from.ensures.none c.in-None-take_from.is).0;
+      under = inv.under;
+      ceil = inv.ceil;
+    }
+
+pub returns-then-version-floor-clause-advanced : goal.returns-then-version-floor-clause-advanced
+returns-then-version-floor-clause-advanced g c =
+    advanced_wait g.L.Recorder (commands_of c.args.context.now.script.now) c.args.lane.now c.loop.lane c.args.commands.now c.loop.commands c.take_from.new.ring c.loop.invariant.advanced
+    (c.take_from.ensures.none c.in-None-take_from.is).0
 
 pub returns-in_err-give_next-in-Some-take_from-clause-advanced :
     goal.returns-in_err-give_next-in-Some-take_from-clause-advanced

@@ -1,6 +1,7 @@
 use Rattle.std.proofs.Common.{◌≡◌, ◌≤◌, None}
 use Rattle.control_script.specs.Order.{commands_of}
-use Rattle.lane_worker.specs.Turning.{IsUnder, Advanced}
+use Rattle.lane_worker.specs.Given.{IsUnder}
+use Rattle.lane_worker.specs.Turning.{Advanced}
 use Rattle.lane_worker.proofs.places.take_places.Given as goal
 
 -- the lane took commands from the call till now, and not too many

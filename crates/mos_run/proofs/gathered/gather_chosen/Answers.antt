@@ -1,15 +1,19 @@
 -- What the run did to the sink that gathers, and what is left to hand on, is what the output took.
-use Rattle.std.proofs.Common.{◌≡◌, ℕ, Some, ap, arith, inl, inr, le_refl, subst, sym, ◌≤◌, ◌∙◌}
+use Rattle.std.proofs.Common.{◌≡◌, ℕ, Some, Result, Ok, Err, IsOk, OnOk, ap, arith, inl, inr, le_refl, subst, sym, ◌≤◌, ◌∙◌}
 use Rattle.std.specs.Prelude.{◌⊎◌}
+use Rattle.mos_bytes.proofs.Causes.{Rose-earlier}
 use Rattle.mos_bytes.specs.Gathering.{failures_of, gathering_faults, given_to, held_of, inner_of, start_of}
 use Rattle.mos_run.specs.Request.{Request, requested}
 use Rattle.mos_run.specs.Run.{FinishesUnder}
 use Rattle.mos_run.proofs.Below.{done_below, front_below, rose_below}
-use Rattle.capture_replay.proofs.Following.{ok_value}
 use Rattle.mos_run.proofs.Gathering.{handed_by, ran_below, ran_failed, ran_without_memory}
 use Rattle.mos_run.proofs.Outcomes.{finishes_alone, has_some}
-use Rattle.capture_replay.proofs.Refusals.{rose_since}
 use Rattle.mos_run.proofs.gathered.gather_chosen.Goals as goal
+
+-- what holds where a call went well
+ok_value : {T E P : Type 0} (r : Result T E) → IsOk r → OnOk r P → P
+ok_value (Ok x) good p = p
+ok_value (Err e) good p = absurd (cc)
 
 either-six : (status : ℕ) → (status ≡ 6) ⊎ (status ≡ 6) → status ≡ 6
 either-six status (inl six) = six
@@ -71,7 +75,7 @@ returns g c =
             out got c.args.err.now c.run_chosen-ended.new.err c.handed_on-ended.new.err
             c.run_chosen-ended.result c.handed_on-ended.result _ _ run zero (c.run_chosen-ended.ensures.ran.done zero)
             (rose_below g.O.Sink.faults out (start_of handed) (gathering_faults a) (gathering_faults handed) (gathering_faults handed) (g.O.Sink.faults got) start first (le_refl _) inner.cause
-            (rose_since (gathering_faults a) (gathering_faults b) (gathering_faults handed) ran.write_fault.later (finish.told.cause.failed failed)))
+            (Rose-earlier (gathering_faults a) (gathering_faults b) (gathering_faults handed) ran.write_fault.later (finish.told.cause.failed failed)))
             (after.status failed zero) (after.told failed zero).0 (after.told failed zero).1 after.lasts);
       };
     }

@@ -2,9 +2,8 @@ use Rattle.std.proofs.Common.{◌≡◌, Some, None, true, sym, subst}
 use Rattle.std.specs.Prelude.{slice_get}
 use Rattle.forest_versions.specs.Lawful.{is_lawful}
 use Rattle.control_script.specs.Order.{commands_of}
-use Rattle.lane_worker.proofs.Commands.{lawful_at, no_command}
-use Rattle.lane_worker.proofs.Advancing.{takes_next}
-use Rattle.lane_worker.proofs.places.give_next.Goals as goal
+use Rattle.lane_worker.proofs.Taking.{lawful_at, no_command, takes_next}
+use Rattle.lane_worker.proofs.commands.give_next.Goals as goal
 
 pub command-requires-in-Some-clause-lawful : goal.command-requires-in-Some-clause-lawful
 command-requires-in-Some-clause-lawful g c =
