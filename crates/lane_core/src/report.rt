@@ -1,13 +1,10 @@
 //! The end of a lane that hands its records out as it kept them, and what is written of these.
 
-ghost use Rattle.std.specs.Prelude.{◌≡◌, IfOk, IsOk, IsTrue, OnOk, IsErrOf, Err, None, map};
+ghost use Rattle.std.specs.Prelude.{◌≡◌, IfOk, IsOk, IsTrue, OnOk, Err, None, map};
 ghost use Rattle.std.specs.List.{list_all};
-ghost use Rattle.mos_bytes.specs.Causes.{HasCauseOf};
-ghost use Rattle.mos_bytes.specs.Outside.{Writes};
-ghost use Rattle.mos_bytes.specs.Writes.{WriteAdds};
-ghost use Rattle.report_text.specs.declared.write.TextError.TheVariants.{WriteFault as TextFault};
 ghost use Rattle.report_text.specs.Ranges.{HaveTypes, record_fits};
 ghost use Rattle.report_text.specs.Report.{records_text, report_text};
+ghost use Rattle.report_text.specs.Written.{WritesText};
 ghost use Rattle.lane_core.specs.End.{ended};
 ghost use Rattle.lane_core.specs.Lane.{ForEvents, HadFailed, IsHeavyBy, KeepsTooMuch, KeepsWithin};
 ghost use Rattle.lane_core.specs.KeptEnd.{IsKeptEnd, shown_as};
@@ -82,10 +79,7 @@ pub fn write_all_kept<A: App, O: Sink>(
     out: &mut O,
     records: &[RecordUnderWay],
 ) -> Result<(), TextError>
-    ensures text { WriteAdds (O.taken out.old) (O.taken out.new) result
-        (records_text (map (ended (A.meaning app.now)) records.now)) }
-    ensures cause { HasCauseOf (O.faults out.old) (O.faults out.new) (IsErrOf result TextFault) }
-    ensures lasts { O.lasting out.new ≡ O.lasting out.old }
+    ensures text { WritesText O.Sink out.old out.new result (records_text (map (ended (A.meaning app.now)) records.now)) }
     ensures fits { IsOk result → IsTrue (list_all record_fits (map (ended (A.meaning app.now)) records.now)) }
 {
     let mut line = String::new(alloc);
@@ -105,10 +99,9 @@ pub fn write_report_kept<A: App, O: Sink>(
     records: &[RecordUnderWay],
     totals: &Totals,
 ) -> Result<(), TextError>
-    ensures text { WriteAdds (O.taken out.old) (O.taken out.new) result
+    ensures text { WritesText O.Sink out.old out.new result
         (report_text (shown_as (A.meaning app.now) records.now) totals.now) }
     ensures typed { IsOk result → HaveTypes (shown_as (A.meaning app.now) records.now) totals.now }
-    ensures to { Writes O.Sink out.old out.new (IsErrOf result TextFault) }
 {
     write_all_kept(alloc, app, out, records)?;
     write_totals(alloc, out, totals)

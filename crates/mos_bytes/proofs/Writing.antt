@@ -1,5 +1,5 @@
 -- A text that is written piece by piece to a sink.
-use Rattle.std.proofs.Common.{◌≡◌, ℕ, ◌≤◌, List, [], ◌++◌, subst, sym, le_refl, arith, Result, IsErr}
+use Rattle.std.proofs.Common.{◌≡◌, ◌∙◌, ℕ, List, [], ◌++◌, refl, subst, sym, Result, IsErr}
 use Rattle.std.proofs.lemmas.Result.{MatchResult-from_err, MatchResult-weaker}
 use Rattle.std.specs.declared.option.Option.{Option}
 use Rattle.std.specs.Io.KnownBytes.{Appends}
@@ -11,20 +11,20 @@ use Rattle.mos_bytes.proofs.Writes.{AppendsFront-after, AppendsFront-more}
 pub record Writing {S : Type 0} (taken : S → Option (List ℕ)) (faults : S → ℕ) (old now : S) (whole rest : List ℕ) : Type 0 where
   pub onward : (end : Option (List ℕ)) → Appends (taken now) end rest → Appends (taken old) end whole
   pub front : (end : Option (List ℕ)) → AppendsFront (taken now) end rest → AppendsFront (taken old) end whole
-  pub later : faults old ≤ faults now
+  pub still : faults now ≡ faults old
 
 -- nothing was written yet
 pub Writing-begun : {S : Type 0} (taken : S → Option (List ℕ)) (faults : S → ℕ) (old : S) (whole : List ℕ) → Writing taken faults old old whole whole
-Writing-begun taken faults old whole = record { onward = λ end p. p; front = λ end p. p; later = le_refl (faults old) }
+Writing-begun taken faults old whole = record { onward = λ end p. p; front = λ end p. p; still = refl }
 
 -- one more piece was written
 pub Writing-more : {S : Type 0} (taken : S → Option (List ℕ)) (faults : S → ℕ) (old mid now : S) (whole piece rest left : List ℕ)
-    → Writing taken faults old mid whole left → left ≡ piece ++ rest → Appends (taken mid) (taken now) piece → faults mid ≤ faults now
+    → Writing taken faults old mid whole left → left ≡ piece ++ rest → Appends (taken mid) (taken now) piece → faults now ≡ faults mid
     → Writing taken faults old now whole rest
-Writing-more taken faults old mid now whole piece rest left w is wrote later = record {
+Writing-more taken faults old mid now whole piece rest left w is wrote still = record {
   onward = λ end p. w.onward end (subst (Appends (taken mid) end) (sym is) (Appends-trans (taken mid) (taken now) end piece rest wrote p));
   front = λ end p. w.front end (subst (AppendsFront (taken mid) end) (sym is) (AppendsFront-after (taken mid) (taken now) end piece rest wrote p));
-  later = omega (arith, w.later);
+  still = still ∙ w.still;
 }
 
 -- the next piece was written in part

@@ -47,6 +47,7 @@ gathering_lasting {sink = sink} g = (g.start.value, sink.lasting g.inner)
 pub record Tells {S T : Type 0} {sink : Ghosts S} (old new : GatheringSink S sink) (result : Result T Failed) : Type 0 where
   pub sound : IsOk result ↔ (failures_of new ≡ 0)
   pub cause : HasCause (gathering_faults old) (gathering_faults new) result
+  pub still : OnOk result (gathering_faults new ≡ gathering_faults old)
   pub lasts : gathering_lasting new ≡ gathering_lasting old
   pub below : failures_of old ≡ 0 → IsCausedBelow old new result
   pub stopped : failures_of old ≢ 0 → IsErr result × (inner_of new ≡ inner_of old)

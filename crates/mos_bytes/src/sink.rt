@@ -1,6 +1,6 @@
 //! Where bytes go.
 
-ghost use Rattle.std.specs.Prelude.{◌≡◌, ⊤, ℕ, List};
+ghost use Rattle.std.specs.Prelude.{◌≡◌, ⊤, ℕ, List, OnOk};
 ghost use Rattle.std.specs.declared.option.Option.{Option};
 ghost use Rattle.std.specs.declared.option.Option.TheVariants.{None};
 ghost use Rattle.std.specs.Io.KnownBytes.{Keeps};
@@ -15,7 +15,7 @@ pub trait Sink {
     // The bytes that were taken so far, where the sink tells them.
     ghost taken: { Self → Option (List ℕ) };
 
-    // How often the sink has failed. It never falls.
+    // How often the sink has failed. It never falls, and a call that answers `Ok` leaves it.
     ghost faults: { Self → ℕ };
 
     // How many pieces were given to `write_all` so far, where the sink counts them.
@@ -31,6 +31,7 @@ pub trait Sink {
         ensures bytes { WriteAdds (taken self.old) (taken self.new) result bytes.now }
         ensures one_piece { GivesPieces 1 (pieces self.old) (pieces self.new) }
         ensures cause { HasCause (faults self.old) (faults self.new) result }
+        ensures sound { OnOk result (faults self.new ≡ faults self.old) }
         ensures lasts { lasting self.new ≡ lasting self.old };
 
     /// Hands on what the sink holds back, where it gathers. What counts as taken is as it was.
@@ -38,6 +39,7 @@ pub trait Sink {
         ensures bytes { Keeps (taken self.old) (taken self.new) }
         ensures no_piece { pieces self.new ≡ pieces self.old }
         ensures cause { HasCause (faults self.old) (faults self.new) result }
+        ensures sound { OnOk result (faults self.new ≡ faults self.old) }
         ensures lasts { lasting self.new ≡ lasting self.old }
     {
         Ok(())

@@ -6,7 +6,3 @@ use Rattle.app_api.specs.App.{is_name_byte}
 
 pub passes-at : {X : Type 0} (p : X → Bool) (xs : List X) (i : ℕ) (x : X) → list_all p xs ≡ true → i < length xs → x ≡ get_or xs i x → p x ≡ true
 passes-at p xs i x all within is = subst (λ y. p y ≡ true) (sym is) (AllPass-from_list_all p xs all i x within)
-
--- a byte of a name is an ASCII character
-pub name_byte-ascii : (b : ℕ) → is_name_byte b ≡ true → b < 128
-name_byte-ascii b named = grind arith

@@ -117,9 +117,6 @@ pub record Reached (text : List ℕ) (at : ℕ) (s : Taker) : Type 0 where
   pub place : at ≡ length (text_of (lines s))
   pub starts : 0 < at → get_or text (at - 1) 0 ≡ 10
 
-pub reached-start : (text : List ℕ) → Reached text 0 start
-reached-start text = record { stands = stands-start; is = refl; place = refl; starts = λ h. absurd (omega arith) }
-
 begins : (rs : List Record) (o : Option Totals) → rise_from 0 (map (λ r. r.name) rs) ≡ true → list_all is_tidy_record rs ≡ true → list_all record_fits rs ≡ true
     → ((t : Totals) → o ≡ Some t → totals_fit t ≡ true) → BeginsReport (text_of (lines_of rs o))
 begins rs None rise each fits counts = record {

@@ -1,6 +1,6 @@
 -- A text that calls write one piece after another.
 use Rattle.std.proofs.Common.{◌≡◌, ◌∙◌, List, ℕ, [], ◌++◌, Result, Ok, Err, refl, sym, subst, le_refl}
-use Rattle.std.specs.Prelude.{⊤, IsErrAnd}
+use Rattle.std.specs.Prelude.{⊤, IsErrAnd, OnOk}
 use Rattle.std.proofs.KnownBytes.{Appends-nil}
 use Rattle.mos_bytes.specs.declared.sink.Sink.{Ghosts as Sink}
 use Rattle.mos_bytes.proofs.Causes.{HasCauseOf-earlier}
@@ -16,6 +16,8 @@ module _ {S : Type 0} (sink : Sink S) where
   wrote-none s value = record {
     adds = Appends-nil (sink.taken s);
     to = record { cause = record { later = le_refl (sink.faults s); cause = λ e. cc e }; lasts = refl };
+    still = refl;
+    refused = λ _. refl;
   }
 
   -- memory was refused before anything was written
@@ -24,7 +26,14 @@ module _ {S : Type 0} (sink : Sink S) where
   refused-before s (Err f) text refused = record {
     adds = AppendsFront-nil (sink.taken s) text;
     to = record { cause = record { later = le_refl (sink.faults s); cause = λ is. cc (refused, is) }; lasts = refl };
+    still = tt;
+    refused = λ _. refl;
   }
+
+  -- a count that stayed in one call and in the next
+  still-after : {T : Type 0} (a b c : ℕ) (r : Result T TextError) → b ≡ a → OnOk r (c ≡ b) → OnOk r (c ≡ a)
+  still-after a b c (Ok value) whole last = last ∙ whole
+  still-after a b c (Err e) whole last = tt
 
   -- a piece was written whole, and then what a call writes
   pub wrote-after : {T U : Type 0} (a b c : S) (value : U) (r : Result T TextError) (piece next : List ℕ)
@@ -32,6 +41,8 @@ module _ {S : Type 0} (sink : Sink S) where
   wrote-after a b c value r piece next whole last = record {
     adds = WriteAdds-after _ _ _ r piece next whole.adds last.adds;
     to = record { cause = HasCauseOf-earlier _ _ _ _ whole.to.cause.later last.to.cause; lasts = last.to.lasts ∙ whole.to.lasts };
+    still = still-after _ _ _ r whole.still last.still;
+    refused = λ is. last.refused is ∙ whole.still;
   }
 
   -- an error is handed on
@@ -41,13 +52,15 @@ module _ {S : Type 0} (sink : Sink S) where
   wrote-handed a b e (Err f) text part handed = record {
     adds = part.adds;
     to = record { cause = record { later = part.to.cause.later; cause = λ is. part.to.cause.cause (cc (handed, is)) }; lasts = part.to.lasts };
+    still = tt;
+    refused = λ is. part.refused (cc (handed, is));
   }
 
   -- a call failed at a piece, with more behind it
   pub wrote-part : {T U : Type 0} (a b : S) (e : TextError) (r : Result T TextError) (piece next : List ℕ)
       → WritesText {T = U} sink a b (Err e) piece → IsErrAnd r (λ f. f ≡ e) → WritesText sink a b r (piece ++ next)
   wrote-part a b e r piece next part handed =
-      wrote-handed a b e r (piece ++ next) (record { adds = AppendsFront-more _ _ piece next part.adds; to = part.to }) handed
+      wrote-handed a b e r (piece ++ next) (record { adds = AppendsFront-more _ _ piece next part.adds; to = part.to; still = tt; refused = part.refused }) handed
 
   -- of a whole text, the rest is still to be written: what then writes the rest has written the whole
   abbrev pub Underway : S → S → List ℕ → List ℕ → Type 0

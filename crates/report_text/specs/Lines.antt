@@ -30,13 +30,9 @@ callback_line e =
 unfoldable pub drop_line : ℕ × Reason → List ℕ
 drop_line d = codes "drop " ++ (decimal d.0 ++ (codes " " ++ (reason_text d.1 ++ codes "\n")))
 
--- what follows a field's name
-abbrev pub value_text : ℕ → List ℕ
-value_text value = codes " " ++ (decimal value ++ codes "\n")
-
 -- a field's name and its value
 unfoldable pub field_line : List ℕ × ℕ → List ℕ
-field_line f = codes "field " ++ (f.0 ++ value_text f.1)
+field_line f = codes "field " ++ (f.0 ++ (codes " " ++ (decimal f.1 ++ codes "\n")))
 
 unfoldable pub totals_line : Totals → List ℕ
 totals_line t =

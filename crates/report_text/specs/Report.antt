@@ -12,8 +12,7 @@ abbrev pub record_text : Record → List ℕ
 record_text r = first_line r ++ rest_text r
 
 abbrev pub records_text : List Record → List ℕ
-records_text [] = []
-records_text (r ∷ rs) = record_text r ++ records_text rs
+records_text rs = flat_map record_text rs
 
 -- the records in order, and then the totals
 unfoldable pub report_text : List Record → Totals → List ℕ

@@ -1,6 +1,6 @@
 //! A text written line by line, as that of a report is which several threads have made.
 
-ghost use Rattle.std.specs.Prelude.{◌≡◌, ◌==◌, ◌-◌, ◌<◌, ◌≤◌, length, Some, None, IfSome, IfNone, IsErr};
+ghost use Rattle.std.specs.Prelude.{◌≡◌, ◌==◌, ◌-◌, ◌<◌, ◌≤◌, length, Some, None, IfSome, IfNone, IsErr, OnOk};
 ghost use Rattle.std.specs.List.{position};
 ghost use Rattle.mos_bytes.specs.Outside.{Writes};
 ghost use Rattle.mos_bytes.specs.Writes.{WriteAdds};
@@ -25,6 +25,7 @@ fn first_line_of(text: &[u8]) -> Option<usize>
 pub fn write_lines<O: Sink>(out: &mut O, text: &[u8]) -> Result<(), Failed>
     ensures text { WriteAdds (O.taken out.old) (O.taken out.new) result text.now }
     ensures to { Writes O.Sink out.old out.new (IsErr result) }
+    ensures still { OnOk result (O.faults out.new ≡ O.faults out.old) }
 {
     let mut rest = text;
     while let Some(len) = first_line_of(rest) {

@@ -1,8 +1,8 @@
 //! The lines of a report, each put behind what a text already holds.
 
-ghost use Rattle.std.specs.Prelude.{◌≡◌, ◌++◌, IsTrue, OnOk, string_bytes};
+ghost use Rattle.std.specs.Prelude.{◌≡◌, ◌++◌, IsTrue, OnOk, codes, decimal, string_bytes};
 ghost use Rattle.callback_log.specs.Walk.{entry_lent, seen_lent};
-ghost use Rattle.report_text.specs.Lines.{kind_text, head_line, first_line, callback_line, drop_line, value_text, field_line, totals_line};
+ghost use Rattle.report_text.specs.Lines.{kind_text, head_line, first_line, callback_line, drop_line, field_line, totals_line};
 ghost use Rattle.report_text.specs.Words.{seen_text};
 ghost use Rattle.app_api.specs.App.{is_field_name};
 
@@ -99,7 +99,7 @@ pub(crate) fn push_drop(line: &mut String, index: u64, reason: Reason) -> Result
 
 // What follows a field's name.
 fn push_value(line: &mut String, value: u64) -> Result<(), AllocError>
-    ensures { OnOk result (string_bytes line.new ≡ string_bytes line.old ++ value_text value) }
+    ensures { OnOk result (string_bytes line.new ≡ string_bytes line.old ++ (codes " " ++ (decimal value ++ codes "\n"))) }
 {
     push_labelled(line, " ", value)?;
     line.push('\n')

@@ -19,6 +19,8 @@ returns-in_err-write_lines-clause-text g c =
           (subst (AppendsFront (g.O.Sink.taken c.args.out.now) (g.O.Sink.taken c.write_lines.new.out)) (sym next)
           (AppendsFront-more _ _ _ _ c.in_err-write_lines.ensures.text));
       to = search rules;
+      still = search rules;
+      refused = search rules;
     }
 
 pub returns-in_err-write_all_kept-clause-text : goal.returns-in_err-write_all_kept-clause-text
@@ -30,8 +32,10 @@ returns-in_err-write_all_kept-clause-text g c =
     record {
       adds = WriteAdds-err _ _ _ _ c.from_residual-in_err-write_all_kept.ensures.0
           (subst (AppendsFront (g.O.Sink.taken c.args.out.now) (g.O.Sink.taken c.write_all_kept.new.out)) (sym next)
-          (AppendsFront-after _ _ _ _ _ c.in_ok-write_lines.ensures.text c.in_err-write_all_kept.ensures.text));
+          (AppendsFront-after _ _ _ _ _ c.in_ok-write_lines.ensures.text c.in_err-write_all_kept.ensures.text.adds));
       to = search rules;
+      still = search rules;
+      refused = search rules;
     }
 
 pub returns-clause-text : goal.returns-clause-text
@@ -42,8 +46,10 @@ returns-clause-text g c =
     let next = lines-made app records c.made_by-made.result c.deref.result.now _ made c.deref.ensures.value c.split_at.ensures.back in
     record {
       adds = subst (Appends (g.O.Sink.taken c.args.out.now) (g.O.Sink.taken c.write_all_kept.new.out)) (sym next)
-          (Appends-trans _ _ _ _ _ c.in_ok-write_lines.ensures.text c.in_ok-write_all_kept.ensures.text);
+          (Appends-trans _ _ _ _ _ c.in_ok-write_lines.ensures.text c.in_ok-write_all_kept.ensures.text.adds);
       to = search rules;
+      still = search rules;
+      refused = search rules;
     }
 
 pub returns-clause-fits : goal.returns-clause-fits

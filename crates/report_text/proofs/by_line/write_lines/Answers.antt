@@ -8,7 +8,7 @@ loop-len-preserved g c =
     let parts = c.split_at.ensures in
     let next = sym (take-append-drop c.in-Some.len c.loop-len.rest.now)
     ∙ ap (λ line. line ++ drop c.in-Some.len c.loop-len.rest.now) (sym parts.front) ∙ ap (λ behind. c.split_at.result.0.now ++ behind) (sym parts.back) in (
-      Writing-more g.O.Sink.taken g.O.Sink.faults _ _ _ _ _ _ _ c.loop-len.invariant.0 next c.in_ok-write_all.ensures.bytes c.write_all.ensures.cause.later,
+      Writing-more g.O.Sink.taken g.O.Sink.faults _ _ _ _ _ _ _ c.loop-len.invariant.0 next c.in_ok-write_all.ensures.bytes c.in_ok-write_all.ensures.sound,
       c.write_all.ensures.lasts ∙ c.loop-len.invariant.1,
     )
 
