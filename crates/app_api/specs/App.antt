@@ -8,7 +8,8 @@ use Rattle.app_api.specs.declared.app.Tally.{Tally}
 use Rattle.app_api.specs.declared.reaction.Reaction.{Reaction}
 use Rattle.app_api.specs.declared.registration.Reg.{Reg}
 use Rattle.app_api.specs.declared.rule.Rule.{Rule}
-use Rattle.app_api.specs.Events.{is_rcv}
+use Rattle.native_filters.specs.Hook.{is_hook}
+use Rattle.native_filters.specs.declared.facts.Hook.TheVariants.{Rcv}
 use Rattle.app_api.specs.Numbers.{rise_from}
 use Rattle.app_api.specs.Reg.{are_presets}
 use Rattle.app_api.specs.Reaction.{asks_nothing}
@@ -42,7 +43,7 @@ pub record IsLawful (app : Meaning) : Type 0 where
   pub by_number : IsTrue (rise_from 1 (map (λ r. r.number) app.presets))
   pub names : (t : Tally) → IsTrue (list_all (λ f. is_field_name f.0) (app.fields t))
   pub few : (t : Tally) → length (app.fields t) ≤ 256
-  pub no_drop : (t : Tally) (call : Call) (rules : List Rule) → IsTrue (is_rcv call.hook) → (app.react t call rules).1.drop ≡ None
+  pub no_drop : (t : Tally) (call : Call) (rules : List Rule) → IsTrue (is_hook call.hook Rcv) → (app.react t call rules).1.drop ≡ None
 
 -- at a hook a callback changes nothing that is kept, and asks nothing
 abbrev pub RestsAt : Meaning → Hook → Type 0

@@ -1,9 +1,9 @@
 -- Not of the headline. Who hears an event at a hook, and who hears each of the built-in events.
-use Rattle.std.specs.Prelude.{◌≡◌, ℕ, ◌==◌, ◌&&◌, Bool, true, false, IsTrue, nat_le, slice_index_or}
+use Rattle.std.specs.Prelude.{◌≡◌, ℕ, ◌==◌, Bool, true, false, IsTrue, slice_index_or}
 use Rattle.app_api.specs.declared.hearers.Hearers.{Hearers}
 use Rattle.app_api.specs.declared.hearers.Hearers.TheVariants.{Nobody, One, More}
 use Rattle.app_api.specs.declared.hearers.Heard.{Heard}
-use Rattle.app_api.specs.Events.{START, PKT_IN, END, place_of}
+use Rattle.app_api.specs.Events.{PKT_IN, place_of, is_of_packets}
 
 -- both together: two are more than one
 abbrev pub joined : Hearers → Hearers → Hearers
@@ -32,10 +32,6 @@ hearers_in heard event = slice_index_or heard.of_each (place_of event) More
 -- whether an event is heard
 abbrev pub is_heard_in : Heard → ℕ → Bool
 is_heard_in heard event = is_any (hearers_in heard event)
-
--- whether a packet of a connection may raise an event
-abbrev pub is_of_packets : ℕ → Bool
-is_of_packets event = nat_le START event && nat_le event END
 
 -- the registration of a number alone hears packets: it stands at `pkt_in`, and nothing else that a packet may raise is heard
 pub record HearsAlone (heard : Heard) (number : ℕ) : Type 0 where

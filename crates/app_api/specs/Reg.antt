@@ -2,10 +2,12 @@
 use Rattle.std.specs.Prelude.{ℕ, ◌^◌, ◌&&◌, ◌==◌, not, Bool, true, false, List, [], map, Option, nat_le, nat_lt}
 use Rattle.std.specs.List.{list_all, find}
 use Rattle.native_filters.specs.declared.facts.Hook.{Hook}
+use Rattle.native_filters.specs.declared.facts.Hook.TheVariants.{Rcv}
 use Rattle.app_api.specs.declared.registration.PeekSpec.{PeekSpec}
 use Rattle.app_api.specs.declared.registration.PeekSpec.TheVariants.{Nothing, Next, At}
 use Rattle.app_api.specs.declared.registration.Reg.{Reg}
-use Rattle.app_api.specs.Events.{is_rcv, allows_hook}
+use Rattle.native_filters.specs.Hook.{is_hook}
+use Rattle.app_api.specs.Events.{allows_hook}
 use Rattle.app_api.specs.Numbers.{all_differ}
 
 -- whether a length is 1 to 256, and an offset is below 2^40
@@ -29,7 +31,7 @@ preset_reg number event hook on = record {
 abbrev pub is_preset : Reg → Bool
 is_preset r =
     nat_le 1 r.number && nat_le r.number 15 && allows_hook r.event r.hook && peek_fits r.peek
-    && not (is_rcv r.hook && r.action.drop)
+    && not (is_hook r.hook Rcv && r.action.drop)
 
 -- whether an application may have the registrations as its presets
 abbrev pub are_presets : List Reg → Bool

@@ -1,8 +1,9 @@
-//! The built-in events: one table of their names and of the hooks at which they are raised, in order of their numbers.
+//! The built-in events: one table of their names, of the hooks at which they are raised and of what raises them, in order of
+//! their numbers.
 
 ghost use Rattle.std.specs.Prelude.{◌≡◌, ◌≤◌, ◌<◌, List, length, map, slice_get, IfSome};
 ghost use Rattle.std.specs.Option.{option_copied};
-ghost use Rattle.app_api.specs.Events.{START as FIRST, LAST, EventRow, is_built_in, place_of, raised_at, allows_hook};
+ghost use Rattle.app_api.specs.Events.{START as FIRST, LAST, EventRow, is_built_in, place_of, raised_at, raised_by_packets, allows_hook, is_of_packets};
 ghost use Rattle.app_api.specs.Names.{IsLabel, event_name, event_named};
 
 use native_filters::Hook;
@@ -32,30 +33,32 @@ pub const LAST_EVENT: u16 = TIMER;
 /// How many built-in events there are.
 pub const EVENTS: usize = 9;
 
-// A row of the table: an event's name, and whether it is raised at the sender and at the receiver.
+// A row of the table: an event's name, whether it is raised at the sender and at the receiver, and whether packets of a connection
+// raise it.
 macro_rules! row {
-    ($name:literal, $at_sender:literal, $at_receiver:literal) => {
+    ($name:literal, $at_sender:literal, $at_receiver:literal, $by_packets:literal) => {
         (
             $name,
             $at_sender,
             $at_receiver,
             concat!($name, "                "),
+            $by_packets,
         )
     };
 }
 
 // In order of their numbers. Behind each name, which has at most ten bytes, and the two sides stands the name again with sixteen
 // blanks behind it.
-static TABLE: [(&str, bool, bool, &str); EVENTS] = [
-    row!("start", true, false),
-    row!("pkt_in", true, true),
-    row!("rexmit", false, true),
-    row!("new_data", false, true),
-    row!("error", false, true),
-    row!("state", true, true),
-    row!("end", false, true),
-    row!("orphan", true, false),
-    row!("timer", false, true),
+static TABLE: [(&str, bool, bool, &str, bool); EVENTS] = [
+    row!("start", true, false, true),
+    row!("pkt_in", true, true, true),
+    row!("rexmit", false, true, true),
+    row!("new_data", false, true, true),
+    row!("error", false, true, true),
+    row!("state", true, true, true),
+    row!("end", false, true, true),
+    row!("orphan", true, false, false),
+    row!("timer", false, true, false),
 ];
 
 /// Whether a number is a built-in event.
@@ -77,7 +80,7 @@ pub(crate) fn place_of(event: u16) -> usize
 }
 
 // Whether the row at a place of a table says that its event is raised at a side.
-fn says(rows: &[(&str, bool, bool, &str)], place: usize, hook: Hook) -> bool
+fn says(rows: &[(&str, bool, bool, &str, bool)], place: usize, hook: Hook) -> bool
     ensures { (table : List EventRow) → map (λ r. r.1) rows.now ≡ map (λ r. r.at_sender) table
         → map (λ r. r.2) rows.now ≡ map (λ r. r.at_receiver) table
         → result ≡ raised_at (slice_get table place) hook }
@@ -97,6 +100,24 @@ pub fn allows_hook(event: u16, hook: Hook) -> bool
     ensures { result ≡ allows_hook event hook }
 {
     says(&TABLE, place_of(event), hook)
+}
+
+// Whether the row at a place of a table says that packets of a connection raise its event.
+fn says_of_packets(rows: &[(&str, bool, bool, &str, bool)], place: usize) -> bool
+    ensures { (table : List EventRow) → map (λ r. r.4) rows.now ≡ map (λ r. r.by_packets) table
+        → result ≡ raised_by_packets (slice_get table place) }
+{
+    if place >= rows.len() {
+        return false;
+    }
+    rows[place].4
+}
+
+/// Whether packets of a connection may raise an event. No number but that of a built-in event is raised.
+pub(crate) fn is_of_packets(event: u16) -> bool
+    ensures { result ≡ is_of_packets event }
+{
+    says_of_packets(&TABLE, place_of(event))
 }
 
 /// The name of a built-in event. No other number has one.

@@ -5,7 +5,7 @@ ghost use Rattle.app_api.specs.declared.hearers.Hearers.{Hearers};
 ghost use Rattle.app_api.specs.Events.{is_built_in};
 ghost use Rattle.app_api.specs.Hearers.{joined, deep, hearers_in, is_heard_in, HearsAlone};
 
-use crate::events::{END, EVENTS, PKT_IN, START, place_of};
+use crate::events::{EVENTS, LAST_EVENT, PKT_IN, START, is_of_packets, place_of};
 
 /// The registrations that hear a root's event at a hook, those under the root included.
 #[derive(Clone, Copy, Debug, PartialEq, Eq)]
@@ -94,8 +94,8 @@ impl Heard {
         ensures { IfSome result (λ number. HearsAlone self.now number) }
     {
         let mut event = START;
-        while event <= END {
-            if event != PKT_IN && self.is_heard(event) {
+        while event <= LAST_EVENT {
+            if event != PKT_IN && is_of_packets(event) && self.is_heard(event) {
                 return None;
             }
             event += 1;

@@ -1,10 +1,11 @@
 //! What is raised in both phases of a packet, by an orphan, and where a connection ended by idleness.
 
-ghost use Rattle.std.specs.Prelude.{◌≡◌, [], ◌∷◌, ℕ};
+ghost use Rattle.std.specs.Prelude.{◌≡◌, [], ◌∷◌, ℕ, IsTrue};
 ghost use Rattle.std.specs.Option.{option_copied};
 ghost use Rattle.native_filters.specs.declared.facts.Hook.TheVariants.{Snd, Rcv};
 ghost use Rattle.packet_views.specs.declared.packet.Head.{Head as HeadOf};
 ghost use Rattle.tcp_emulation.specs.declared.segment.Side.{Side};
+ghost use Rattle.app_api.specs.Events as events;
 ghost use Rattle.builtin_events.specs.Facts.{sender_facts, receiver_facts, orphan_facts, timer_facts};
 ghost use Rattle.builtin_events.specs.Raised.{raises_of, raises_with};
 ghost use Rattle.builtin_events.specs.Raises.{sender_raises, receiver_raises, orphan_raises, timer_raise};
@@ -20,7 +21,7 @@ use packet_views::{Class, Head};
 use tcp_emulation::Side;
 
 /// How many events one phase may raise.
-pub(crate) const MOST_RAISES: usize = 6;
+pub(crate) const MOST_RAISES: usize = 8;
 
 /// What a packet raises at its sender, after the sender's step: `start` where it is the connection's
 /// first packet, `pkt_in`, and `state` where the sender's state changed. `nth` is the packet's place in
@@ -50,6 +51,16 @@ pub(crate) fn events_at_sender(first: bool, s: &Sent) -> EventList
     events.add_if(true, PKT_IN);
     events.add_if(s.change.old.number() != s.change.new.number(), STATE);
     events
+}
+
+/// Whether a packet raises `pkt_in` alone at its sender, as nearly all do.
+#[inline(always)]
+#[tactic(auto, unfolding(crate::specs::Raises::sender_raises, crate::specs::Facts::sender_facts))]
+pub fn is_alone_at_sender(first: bool, s: &Sent) -> bool
+    ensures { IsTrue result → (h : HeadOf) (from : Side) (nth : ℕ) → sender_raises h from nth first s.now
+        ≡ record { hook = Snd; event = events.PKT_IN; facts = sender_facts h from nth s.now } ∷ [] }
+{
+    !first && s.change.old.number() == s.change.new.number()
 }
 
 /// What a packet raises at its receiver, after the receiver's step: `pkt_in`, `rexmit` where bytes

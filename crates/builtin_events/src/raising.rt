@@ -1,11 +1,6 @@
 //! What one phase raises, before its facts are made.
 
-ghost use Rattle.std.specs.Prelude.{◌≡◌, ◌∷◌, [], ℕ, IsTrue};
-ghost use Rattle.native_filters.specs.declared.facts.Hook.TheVariants.{Snd};
-ghost use Rattle.packet_views.specs.declared.packet.Head.{Head as HeadOf};
-ghost use Rattle.tcp_emulation.specs.declared.segment.Side.{Side as SideOf};
-ghost use Rattle.app_api.specs.Events as events;
-ghost use Rattle.builtin_events.specs.Facts.{sender_facts};
+ghost use Rattle.std.specs.Prelude.{◌≡◌};
 ghost use Rattle.builtin_events.specs.Raises.{sender_raises, receiver_raises};
 ghost use Rattle.builtin_events.specs.Source.{raises_in};
 
@@ -49,16 +44,6 @@ pub fn raising_at_sender<'a>(
         },
         events: events_at_sender(first, s),
     }
-}
-
-/// Whether a packet raises `pkt_in` alone at its sender, as nearly all do.
-#[inline(always)]
-#[tactic(auto, unfolding(crate::specs::Raises::sender_raises, crate::specs::Facts::sender_facts))]
-pub fn is_alone_at_sender(first: bool, s: &Sent) -> bool
-    ensures { IsTrue result → (h : HeadOf) (from : SideOf) (nth : ℕ) → sender_raises h from nth first s.now
-        ≡ record { hook = Snd; event = events.PKT_IN; facts = sender_facts h from nth s.now } ∷ [] }
-{
-    !first && s.change.old.number() == s.change.new.number()
 }
 
 /// The same as `raised_at_receiver` gives, its facts not yet made. Takes no memory.

@@ -1,6 +1,6 @@
 -- What a packet comes to at a hook where it calls one thing, which does nothing.
 use Rattle.std.proofs.Common.{◌≡◌, ℕ, ◌+◌, Bool, true, false, not, ◌&&◌, ◌==◌, Option, Some, List, [], ◌∷◌, ◌++◌, None, refl, sym, ap, subst, ◌∙◌, append-nil}
-use Rattle.std.specs.Prelude.{drop, if◌then◌else◌}
+use Rattle.std.specs.Prelude.{take, drop, if◌then◌else◌}
 use Rattle.std.specs.List.{All, list_all}
 use Rattle.std.proofs.lemmas.Bool.{and_parts}
 use Rattle.std.proofs.lemmas.List.Elements.{All-filter, recursion_from_All}
@@ -21,19 +21,20 @@ use Rattle.app_api.specs.declared.reaction.Reason.{Reason}
 use Rattle.app_api.specs.declared.registration.Reg.{Reg}
 use Rattle.app_api.specs.declared.registration.PeekSpec.{PeekSpec}
 use Rattle.app_api.specs.App.{Meaning, RestsAt}
-use Rattle.app_api.specs.Hearers.{is_of_packets}
+use Rattle.app_api.specs.Events.{is_of_packets}
 use Rattle.app_api.specs.Reaction.{asks_nothing}
 use Rattle.builtin_events.specs.declared.raise.Raise.{Raise}
 use Rattle.builtin_events.specs.Facts.{sender_facts, receiver_facts}
 use Rattle.builtin_events.specs.RaiseLaws.{Row, events_of, all_raised, raised_around}
-use Rattle.builtin_events.specs.Raises.{is_changed, raised_where, sender_raises, receiver_events, receiver_raises}
+use Rattle.builtin_events.specs.Raises.{raised_where, sender_events, sender_raises, receiver_events, receiver_raises}
 use Rattle.event_trees.specs.Private.{numbers_of}
 use Rattle.event_trees.specs.Fires.{fires, is_called}
 use Rattle.forest_versions.specs.State.{ControlState}
 use Rattle.connection_core.specs.declared.ledger.Notes.{Notes}
 use Rattle.connection_core.specs.declared.ledger.Counts.{Counts}
 use Rattle.connection_core.specs.declared.ledger.Ledger.{Ledger}
-use Rattle.connection_core.specs.PacketUnderWay.{PacketUnderWay, seen_by, after_seen, bytes_seen, asked_by, entry_of, reaction_of, first_reason, called, called_all, called_at, settled, raise_done, phase}
+use Rattle.std.specs.Option.{option_or}
+use Rattle.connection_core.specs.PacketUnderWay.{PacketUnderWay, seen_by, after_seen, bytes_seen, asked_by, entry_of, reaction_of, called, called_all, called_at, settled, raise_done, phase}
 use Rattle.connection_core.specs.Standing.{IsUnder, Reached, kept_with}
 use Rattle.connection_core.specs.Trees.{InternsWithin}
 use Rattle.connection_core.specs.Unheard.{CallsNothing, CallNothing, PacketsCallOne}
@@ -91,7 +92,7 @@ others-silent s list hook r is f rows all =
 
 -- ---- the one callback
 
-first-stays : (d : Option Reason) → d ≡ first_reason d None
+first-stays : (d : Option Reason) → d ≡ option_or d None
 first-stays None = refl
 first-stays (Some reason) = refl
 
@@ -180,11 +181,12 @@ pub sender_rests : (app : Meaning) → RestsAt app Snd → (s : ControlState) (k
     → NotesOne keep number Snd r.number notes notes_after → CountsOne ledger ledger_after
     → ledger.changes.items ≡ [] → (c : PacketUnderWay) → IsUnder keep others list socket notes ledger c
     → Reached keep others list socket notes_after ledger_after i i c.altered (phase app s number from (sender_raises h from nth first sent) c)
-unfolding sender_raises
+unfolding sender_raises is_of_packets
 sender_rests app rests s keep others list i number from h nth first sent r alone =
     let f = sender_facts h from nth sent in
-    let front : List Row = (first, 256) ∷ [] in
-    let back : List Row = (is_changed f, 261) ∷ [] in
+    let rows : List Row = sender_events f first in
+    let front : List Row = take 1 rows in
+    let back : List Row = drop 2 rows in
     phase_rests app Snd rests s keep others list i number from f (raised_where Snd f front) (raised_where Snd f back) (sender_raises h from nth first sent)
     (raised_around Snd f 257 front back) (others-silent s list Snd r alone f front refl) (others-silent s list Snd r alone f back refl) r alone
 
@@ -194,7 +196,7 @@ pub receiver_rests : (app : Meaning) → RestsAt app Rcv → (s : ControlState) 
     → NotesOne keep number Rcv r.number notes notes_after → CountsOne ledger ledger_after
     → ledger.changes.items ≡ [] → (c : PacketUnderWay) → IsUnder keep others list socket notes ledger c
     → Reached keep others list socket notes_after ledger_after i i c.altered (phase app s number from (receiver_raises h from nth got) c)
-unfolding receiver_raises
+unfolding receiver_raises is_of_packets
 receiver_rests app rests s keep others list i number from h nth got r alone =
     let f = receiver_facts h from nth got in
     let back : List Row = drop 1 (receiver_events f got) in

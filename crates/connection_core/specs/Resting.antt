@@ -7,7 +7,7 @@ use Rattle.app_api.specs.declared.entry.Seen.TheVariants.{Nothing as SawNothing}
 use Rattle.app_api.specs.declared.registration.Reg.{Reg}
 use Rattle.app_api.specs.declared.registration.PeekSpec.TheVariants.{Nothing}
 use Rattle.app_api.specs.App.{Meaning, RestsAt}
-use Rattle.app_api.specs.Hearers.{is_of_packets}
+use Rattle.app_api.specs.Events.{is_of_packets}
 use Rattle.shared_forest.specs.Lists.{TreeLists}
 use Rattle.event_trees.specs.Fires.{fires}
 use Rattle.forest_versions.specs.State.{ControlState}

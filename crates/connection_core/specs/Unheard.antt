@@ -4,7 +4,7 @@ use Rattle.std.specs.List.{AllByRecursion}
 use Rattle.native_filters.specs.declared.facts.Facts.{Facts}
 use Rattle.native_filters.specs.declared.facts.Hook.{Hook}
 use Rattle.app_api.specs.declared.registration.Reg.{Reg}
-use Rattle.app_api.specs.Hearers.{is_of_packets}
+use Rattle.app_api.specs.Events.{is_of_packets}
 use Rattle.builtin_events.specs.declared.raise.Raise.{Raise}
 use Rattle.event_trees.specs.Private.{numbers_of}
 use Rattle.event_trees.specs.Fires.{fires}

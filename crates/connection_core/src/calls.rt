@@ -127,7 +127,7 @@ impl<A: App> Terms<'_, A> {
         }
     }
 
-    /// Calls what fires at several raises, of which there are at most six, all of one tree: the changes that are asked
+    /// Calls what fires at several raises, of which there are at most eight, all of one tree: the changes that are asked
     /// aren't made.
     pub(crate) fn raise_all(
         &self,
@@ -142,7 +142,7 @@ impl<A: App> Terms<'_, A> {
             (list_in_force self.now.in_force tree.now)
             (state_of socket.old notes.old ledger.old) (state_of socket.new notes.new ledger.new)
             (λ app s. in_phase (raised app s) phase.now)) }
-        ensures most { CallsAtMost 1530
+        ensures most { CallsAtMost 2040
             (state_of socket.old notes.old ledger.old) (state_of socket.new notes.new ledger.new) }
     {
         for event in phase.raising.events.as_slice() {

@@ -116,7 +116,7 @@ impl Flow {
     ) -> Result<(), AllocError>
         requires ready { IsReady F.ForestView terms.now.in_force (2 ^ 61) (holding forests.old self.old ledger.old) }
         requires quiet { ledger.old.changes.items ≡ [] }
-        ensures made_calls { MadeCalls F.ForestView terms.now.in_force 1530
+        ensures made_calls { MadeCalls F.ForestView terms.now.in_force 2040
             (holding forests.old self.old ledger.old) (holding forests.new self.new ledger.new) }
         ensures made { OnOk result (MakesInForce (running A.meaning terms.now)
             (state_in F.ForestView forests.old self.old notes.old ledger.old)
@@ -144,7 +144,7 @@ impl Flow {
         ledger: &mut Ledger,
     ) -> Result<(), AllocError>
         requires ready { IsReady F.ForestView terms.now.in_force (2 ^ 61) (holding forests.old self.old ledger.old) }
-        ensures made_calls { MadeCalls F.ForestView terms.now.in_force 1530
+        ensures made_calls { MadeCalls F.ForestView terms.now.in_force 2040
             (holding forests.old self.old ledger.old) (holding forests.new self.new ledger.new) }
         ensures stands { OnOk result (ForConnection (running A.meaning terms.now)
             (state_in F.ForestView forests.old self.old notes.old ledger.old)
@@ -203,7 +203,7 @@ impl Flow {
         ledger: &mut Ledger,
     ) -> Result<(), AllocError>
         requires sent { HasSent F.ForestView terms.now.in_force (holding forests.old self.old ledger.old) }
-        ensures went { Went F.ForestView terms.now.in_force 1530
+        ensures went { Went F.ForestView terms.now.in_force 2040
             (holding forests.old self.old ledger.old) (holding forests.new self.new ledger.new) }
         ensures stands { OnOk result (MakesInForce (running A.meaning terms.now)
             (state_in F.ForestView forests.old self.old notes.old ledger.old)
@@ -248,7 +248,7 @@ impl Flow {
         requires count { self.old.count < 2 ^ 30 }
         requires held { IsHeld F.ForestView terms.now.in_force forests.old self.old.forest }
         requires room { HasRoom (2 ^ 60) ledger.old.counts }
-        ensures went { Went F.ForestView terms.now.in_force 3060
+        ensures went { Went F.ForestView terms.now.in_force 4080
             (holding forests.old self.old ledger.old) (holding forests.new self.new ledger.new) }
         ensures stands { IfOk result (λ step. StepsTo (running A.meaning terms.now) arrived.now
             (state_in F.ForestView forests.old self.old notes.old ledger.old)

@@ -43,7 +43,7 @@ pub fn orphan<A: App, F: ForestView>(
     ensures drops { IfOk result (λ verdict. ForOrphan (running A.meaning terms.now)
         (F.content forests.now forest.now) notes.old ledger.old
         (λ app s others. (orphan_history app s number (raises_of raised)).drops ≡ drops_of verdict number)) }
-    ensures rise { RiseBy 1530 ledger.old.counts ledger.new.counts }
+    ensures rise { RiseBy 2040 ledger.old.counts ledger.new.counts }
 {
     ledger.begin();
     let Raised {

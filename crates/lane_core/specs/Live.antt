@@ -25,10 +25,10 @@ pub record IsLive (known : Shared → Type 0) (content : Shared → TreeLists) (
   pub since : conn.version ≤ m.version
   pub short : conn.flow.count ≤ packets
 
--- each packet made at most 12 raises of 255 callbacks, one record, and one drop; each open connection may still make one raise, at its end
+-- each packet made at most 16 raises of 255 callbacks, one record, and one drop; each open connection may still make one raise, at its end
 pub record AreCounted (counts : Counts) (places opened dropped packets : ℕ) : Type 0 where
-  pub callbacks : counts.callbacks + 255 * opened ≤ 3315 * packets
-  pub weight : counts.weight + 73440 * opened ≤ 954720 * packets
+  pub callbacks : counts.callbacks + 255 * opened ≤ 4335 * packets
+  pub weight : counts.weight + 73440 * opened ≤ 1248480 * packets
   pub few : places ≤ packets
   pub few_dropped : dropped ≤ packets
   pub numbered : packets ≤ 1048576

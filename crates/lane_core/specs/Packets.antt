@@ -120,8 +120,8 @@ module _ {F : Type 0} {store : Ghosts F} where
   -- the packet of this number has come, and there is room for its record and its callbacks
   pub record HasCome (number : ℕ) (r : Records F store) : Type 0 where
     pub next : r.next ≡ number + 1
-    pub callbacks : r.ledger.counts.callbacks + 255 * finite.len r.connections + 3315 ≤ 3315 * r.next
-    pub weight : r.ledger.counts.weight + 73440 * finite.len r.connections + 954720 ≤ 954720 * r.next
+    pub callbacks : r.ledger.counts.callbacks + 255 * finite.len r.connections + 4335 ≤ 4335 * r.next
+    pub weight : r.ledger.counts.weight + 73440 * finite.len r.connections + 1248480 ≤ 1248480 * r.next
     pub few : vec_len r.list < r.next
 
   -- a packet was added to the records, and it is counted where it was dropped

@@ -4,10 +4,10 @@ use Rattle.native_filters.specs.declared.facts.Hook.{Hook}
 use Rattle.app_api.specs.declared.hearers.Hearers.{Hearers}
 use Rattle.app_api.specs.declared.hearers.Hearers.TheVariants.{Nobody, One}
 use Rattle.app_api.specs.declared.hearers.Heard.{Heard}
-use Rattle.app_api.specs.Events.{PKT_IN, is_built_in}
-use Rattle.app_api.specs.Hearers.{joined, deep, is_any, is_of_packets, hearers_in}
+use Rattle.app_api.specs.Events.{PKT_IN, is_built_in, is_of_packets}
+use Rattle.app_api.specs.Hearers.{joined, deep, is_any, hearers_in}
 use Rattle.shared_forest.specs.declared.node.Slot.{Slot}
-use Rattle.shared_forest.specs.Key.{is_hook}
+use Rattle.native_filters.specs.Hook.{is_hook}
 use Rattle.shared_forest.specs.Listing.{Shown}
 
 -- those of a list of registrations that have the hook

@@ -26,7 +26,7 @@ ghost use Rattle.lane_core.specs.Packets.{HasCome, Places, CostsToPlace, PlacesO
 use crate::connection::Connection;
 use crate::records::Records;
 use crate::records::follow::step_one;
-use crate::terms::PacketTerms;
+use crate::terms::{PacketTerms, terms_under};
 use crate::under_way::RecordUnderWay;
 use app_api::{App, Verdict};
 use builtin_events::{Raised, raised_by_orphan};
@@ -89,7 +89,7 @@ fn start_one<A: App, F: Forests>(
     requires empty { slot.old ≡ new_slot terms.now.number (Conn (seen segment.now).sender (seen segment.now).receiver)
         master.now.version (A.meaning terms.now.app.now).fresh }
     ensures kept { Keeps F.answered F.content forests.old forests.new }
-    ensures rise { RiseBy 3060 ledger.old.counts ledger.new.counts }
+    ensures rise { RiseBy 4080 ledger.old.counts ledger.new.counts }
     ensures place { conn.new.place ≡ conn.old.place }
     ensures live { IsLive (F.answered forests.new) (F.content forests.new) master.now (conn.old.place + 1) 1 conn.new }
     ensures stands { IfOk result (Opens (taking A.meaning terms.now) master.now
@@ -113,21 +113,12 @@ fn orphan_at<A: App, F: Forests>(
 ) -> Result<Verdict, AllocError>
     requires first { HasFirst (F.answered forests.now) (F.content forests.now) master.now }
     requires room { HasRoom (2 ^ 60) ledger.old.counts }
-    ensures rise { RiseBy 1530 ledger.old.counts ledger.new.counts }
+    ensures rise { RiseBy 2040 ledger.old.counts ledger.new.counts }
     ensures stands { IfOk result (IsOrphanNoted (taking A.meaning terms.now) master.now.now
         (record { slot = slot.old; counts = ledger.old.counts })
         (record { slot = slot.new; counts = ledger.new.counts }) (raises_of raised)) }
 {
-    let called = Terms {
-        alloc: terms.alloc,
-        app: terms.app,
-        in_force: InForce {
-            master,
-            version: master.version(),
-        },
-        natives: terms.natives,
-        keep: terms.keep,
-    };
+    let called = terms_under!(terms, master, master.version());
     let forest = master.forest();
     first_tree_names_the_first_list(&called.in_force, forests.tree_of(forest));
     master.tells_the_present();

@@ -16,7 +16,7 @@ use crate::connection::Connection;
 use crate::records::Records;
 use crate::records::idle::was_idle;
 use crate::sides::side_of;
-use crate::terms::PacketTerms;
+use crate::terms::{PacketTerms, terms_under};
 use crate::under_way::RecordUnderWay;
 use app_api::App;
 use connection_core::{Arrived, InForce, Ledger, Step, Terms};
@@ -41,7 +41,7 @@ pub(crate) fn step_one<A: App, F: Forests>(
     requires called { IsCalled (F.answered forests.old) (F.content forests.old) master.now conn.old }
     requires room { HasRoom (2 ^ 60) ledger.old.counts }
     ensures carries_on { CarriesOn F.ForestView master.now forests.old forests.new conn.old conn.new }
-    ensures rise { RiseBy 3060 ledger.old.counts ledger.new.counts }
+    ensures rise { RiseBy 4080 ledger.old.counts ledger.new.counts }
     ensures stands { IfOk result (IsStep (taking A.meaning terms.now) master.now
         (stage_in F.ForestView forests.old conn.old slot.old ledger.old.counts)
         (stage_in F.ForestView forests.new conn.new slot.new ledger.new.counts) (seen segment.now)) }
@@ -49,16 +49,7 @@ pub(crate) fn step_one<A: App, F: Forests>(
         (stage_in F.ForestView forests.old conn.old slot.old ledger.old.counts)
         (F.interns forests.new) (seen segment.now)) }
 {
-    let called = Terms {
-        alloc: terms.alloc,
-        app: terms.app,
-        in_force: InForce {
-            master,
-            version: conn.version,
-        },
-        natives: terms.natives,
-        keep: terms.keep,
-    };
+    let called = terms_under!(terms, master, conn.version);
     let arrived = Arrived {
         number: terms.number,
         from: side_of(&conn.client, segment),

@@ -11,7 +11,7 @@ ghost use Rattle.lane_core.specs.Packets.{Leaves, Ends};
 
 use crate::connection::Connection;
 use crate::records::Records;
-use crate::terms::PacketTerms;
+use crate::terms::{PacketTerms, terms_under};
 use crate::under_way::RecordUnderWay;
 use app_api::App;
 use builtin_events::raised_by_silence;
@@ -66,16 +66,7 @@ fn call_idle<A: App, F: Forests>(
         (record { slot = slot.new; counts = ledger.new.counts })) }
     ensures rise { RiseBy 255 ledger.old.counts ledger.new.counts }
 {
-    let called = Terms {
-        alloc: terms.alloc,
-        app: terms.app,
-        in_force: InForce {
-            master,
-            version: conn.version,
-        },
-        natives: terms.natives,
-        keep: terms.keep,
-    };
+    let called = terms_under!(terms, master, conn.version);
     let facts = facts_of(slot.kind, conn.flow.count);
     let Connection { last, flow, .. } = conn;
     silence(

@@ -11,4 +11,4 @@ unfolding receiver_raises allows_hook
 returns c h from nth g =
     let facts = receiver_facts h from nth g in
     let rows = receiver_events facts g in
-    record { order = order_raised Rcv facts rows refl; side = side_raised Rcv facts rows refl; each = each_raised Rcv facts rows refl }
+    record { order = order_raised Rcv facts rows refl; side = side_raised Rcv facts rows refl; all = refl; each = each_raised Rcv facts rows refl }

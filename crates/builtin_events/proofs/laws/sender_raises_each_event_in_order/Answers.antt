@@ -11,4 +11,4 @@ unfolding sender_raises allows_hook
 returns c h from nth first s =
     let facts = sender_facts h from nth s in
     let rows = sender_events facts first in
-    record { order = order_raised Snd facts rows refl; side = side_raised Snd facts rows refl; each = each_raised Snd facts rows refl }
+    record { order = order_raised Snd facts rows refl; side = side_raised Snd facts rows refl; all = refl; each = each_raised Snd facts rows refl }
