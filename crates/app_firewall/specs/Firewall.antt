@@ -8,7 +8,8 @@ use Rattle.app_api.specs.declared.app.Tally.{Tally}
 use Rattle.app_api.specs.declared.reaction.Reaction.{Reaction}
 use Rattle.app_api.specs.declared.reaction.Reason.TheVariants as reason
 use Rattle.app_api.specs.App.{Meaning, IsLawful, RestsAt}
-use Rattle.app_api.specs.Events.{is_snd, is_rcv, allows_hook}
+use Rattle.native_filters.specs.Hook.{is_hook}
+use Rattle.app_api.specs.Events.{allows_hook}
 use Rattle.app_api.specs.Log.{log}
 use Rattle.app_api.specs.Reaction.{asks_nothing}
 use Rattle.app_api.specs.Tally.{zeros}
@@ -16,11 +17,11 @@ use Rattle.app_firewall.specs.Decision.{decision}
 
 -- whether a call tells of a packet of a connection, at its sender
 abbrev pub is_packet : Call → Bool
-is_packet call = is_snd call.hook && call.reg == 1
+is_packet call = is_hook call.hook Snd && call.reg == 1
 
 -- whether it tells of a packet that belongs to no connection, and isn't of class other, 1
 abbrev pub is_refused_orphan : Call → Bool
-is_refused_orphan call = is_snd call.hook && (call.reg == 3) && not (call.facts.class == 1)
+is_refused_orphan call = is_hook call.hook Snd && (call.reg == 3) && not (call.facts.class == 1)
 
 -- a reaction that asks to drop the packet, by a rule of this number
 abbrev pub drops_by : ℕ → Reaction
@@ -62,9 +63,9 @@ firewall = record {
   fields = λ t. (codes "passed", t.t0) ∷ (codes "dropped", t.t1) ∷ (codes "rule", t.t2) ∷ [];
 }
 
-asked-no_drop : (call : Call) (decided : Bool × ℕ) → IsTrue (is_rcv call.hook) → (firewall_asked call decided).drop ≡ None
+asked-no_drop : (call : Call) (decided : Bool × ℕ) → IsTrue (is_hook call.hook Rcv) → (firewall_asked call decided).drop ≡ None
 asked-no_drop call decided rcv =
-    elim call.hook as (λ h. IsTrue (is_rcv h) → (firewall_asked (record call { hook = h }) decided).drop ≡ None) [
+    elim call.hook as (λ h. IsTrue (is_hook h Rcv) → (firewall_asked (record call { hook = h }) decided).drop ≡ None) [
       | Snd ↦ λ rcv. absurd (false≢true rcv)
       | Rcv ↦ λ _. refl
     ] rcv
@@ -79,13 +80,13 @@ firewall-lawful = record {
   no_drop = λ t call rules rcv. asked-no_drop call (decision rules call.facts) rcv;
 }
 
-rests-at : (t : Tally) (call : Call) (decided : Bool × ℕ) → IsTrue (is_rcv call.hook) → reaction_to t call decided ≡ (t, asks_nothing)
+rests-at : (t : Tally) (call : Call) (decided : Bool × ℕ) → IsTrue (is_hook call.hook Rcv) → reaction_to t call decided ≡ (t, asks_nothing)
 rests-at t call decided rcv =
-    elim call.hook as (λ h. IsTrue (is_rcv h) → reaction_to t (record call { hook = h }) decided ≡ (t, asks_nothing)) [
+    elim call.hook as (λ h. IsTrue (is_hook h Rcv) → reaction_to t (record call { hook = h }) decided ≡ (t, asks_nothing)) [
       | Snd ↦ λ rcv. absurd (false≢true rcv)
       | Rcv ↦ λ _. refl
     ] rcv
 
 pub firewall-rests : RestsAt firewall Rcv
 unfolding firewall
-firewall-rests = λ t call rules at. rests-at t call (decision rules call.facts) (ap is_rcv at)
+firewall-rests = λ t call rules at. rests-at t call (decision rules call.facts) (ap (λ h. is_hook h Rcv) at)

@@ -2,7 +2,8 @@
 
 ghost use Rattle.std.specs.Prelude.{◌≡◌, ◌&&◌, ◌==◌, IsTrue};
 ghost use Rattle.app_api.specs.App.{RestsAt};
-ghost use Rattle.app_api.specs.Events.{is_snd, is_rcv};
+ghost use Rattle.native_filters.specs.Hook.{is_hook};
+ghost use Rattle.native_filters.specs.declared.facts.Hook.TheVariants.{Snd, Rcv};
 ghost use Rattle.app_firewall.specs.Firewall.{firewall, firewall-lawful, firewall-rests, drops_by};
 
 use crate::decision::decide;
@@ -52,7 +53,7 @@ impl App for FirewallApp {
 
     fn rests_at(&self, hook: Hook) -> bool
         ensures rests { IsTrue result → RestsAt firewall hook }
-        ensures receiver { result ≡ is_rcv hook }
+        ensures receiver { result ≡ is_hook hook Rcv }
     {
         hook == Hook::Rcv
     }
@@ -69,7 +70,7 @@ impl App for FirewallApp {
 
 // Whether a call is one of the preset of this number, at the sender.
 fn is_snd_call(call: &Call, number: u8) -> bool
-    ensures { result ≡ is_snd call.now.hook && call.now.reg == number }
+    ensures { result ≡ is_hook call.now.hook Snd && call.now.reg == number }
 {
     call.hook == Hook::Snd && call.reg == number
 }

@@ -10,7 +10,7 @@ use Rattle.app_api.specs.Events.{PKT_IN, NEW_DATA, STATE, END, allows_hook}
 use Rattle.app_api.specs.Reaction.{asks_nothing}
 use Rattle.app_api.specs.Reg.{preset_reg}
 use Rattle.app_api.specs.Tally.{zeros}
-use Rattle.app_traffic.specs.Counting.{plus_if, set_if, is_snd_call_of, is_rcv_call_of}
+use Rattle.app_traffic.specs.Counting.{plus_if, set_if, is_call_of}
 
 abbrev pub acct_presets : List Reg
 acct_presets =
@@ -23,10 +23,10 @@ acct_presets =
 
 -- whether the client's state changed, or the server's
 abbrev pub is_client_step : Call → Bool
-is_client_step call = is_snd_call_of 3 0 call || is_rcv_call_of 4 1 call
+is_client_step call = is_call_of Snd 3 0 call || is_call_of Rcv 4 1 call
 
 abbrev pub is_server_step : Call → Bool
-is_server_step call = is_snd_call_of 3 1 call || is_rcv_call_of 4 0 call
+is_server_step call = is_call_of Snd 3 1 call || is_call_of Rcv 4 0 call
 
 -- nothing is counted yet; the client is CLOSED, 0, and the server is LISTEN, 1
 abbrev pub acct_fresh : Tally
@@ -36,12 +36,12 @@ acct_fresh = record zeros { t7 = 1 }
 -- rose, and the states. The client is the sender of what goes up, and the receiver of what goes down.
 abbrev pub accounted : Tally → Call → Tally
 accounted t call = record {
-  t0 = plus_if (is_snd_call_of 1 0 call) t.t0 1;
-  t1 = plus_if (is_snd_call_of 1 0 call) t.t1 call.facts.len;
-  t2 = set_if (is_rcv_call_of 2 0 call) t.t2 call.facts.next;
-  t3 = plus_if (is_snd_call_of 1 1 call) t.t3 1;
-  t4 = plus_if (is_snd_call_of 1 1 call) t.t4 call.facts.len;
-  t5 = set_if (is_rcv_call_of 2 1 call) t.t5 call.facts.next;
+  t0 = plus_if (is_call_of Snd 1 0 call) t.t0 1;
+  t1 = plus_if (is_call_of Snd 1 0 call) t.t1 call.facts.len;
+  t2 = set_if (is_call_of Rcv 2 0 call) t.t2 call.facts.next;
+  t3 = plus_if (is_call_of Snd 1 1 call) t.t3 1;
+  t4 = plus_if (is_call_of Snd 1 1 call) t.t4 call.facts.len;
+  t5 = set_if (is_call_of Rcv 2 1 call) t.t5 call.facts.next;
   t6 = set_if (is_client_step call) t.t6 call.facts.new;
   t7 = set_if (is_server_step call) t.t7 call.facts.new;
 }

@@ -11,7 +11,7 @@ use Rattle.app_api.specs.Events.{REXMIT, PKT_IN, allows_hook}
 use Rattle.app_api.specs.Reaction.{asks_nothing}
 use Rattle.app_api.specs.Reg.{preset_reg}
 use Rattle.app_api.specs.Tally.{zeros}
-use Rattle.app_traffic.specs.Counting.{plus_if, is_rcv_call}
+use Rattle.app_traffic.specs.Counting.{plus_if, is_call}
 
 abbrev pub rexmit_presets : List Reg
 rexmit_presets = preset_reg 1 REXMIT Rcv true ∷ preset_reg 2 PKT_IN Rcv false ∷ []
@@ -20,10 +20,10 @@ rexmit_presets = preset_reg 1 REXMIT Rcv true ∷ preset_reg 2 PKT_IN Rcv false 
 -- that arrived since
 abbrev pub recounted : Tally → Call → Tally
 recounted t call = record t {
-  t0 = plus_if (is_rcv_call 1 call) t.t0 1;
-  t1 = plus_if (is_rcv_call 1 call) t.t1 call.facts.rexlen;
-  t2 = plus_if (is_rcv_call 1 call) t.t2 call.facts.rexdiff;
-  t3 = plus_if (is_rcv_call 2 call) t.t3 1;
+  t0 = plus_if (is_call Rcv 1 call) t.t0 1;
+  t1 = plus_if (is_call Rcv 1 call) t.t1 call.facts.rexlen;
+  t2 = plus_if (is_call Rcv 1 call) t.t2 call.facts.rexdiff;
+  t3 = plus_if (is_call Rcv 2 call) t.t3 1;
 }
 
 -- a reaction that asks to switch a registration on
@@ -32,7 +32,7 @@ switches_on number = record { drop = None; changes = record { reg = number; on =
 
 -- each retransmission switches the count of later packets on
 abbrev pub rexmit_asked : Call → Reaction
-rexmit_asked call = if is_rcv_call 1 call then switches_on 2 else asks_nothing
+rexmit_asked call = if is_call Rcv 1 call then switches_on 2 else asks_nothing
 
 -- retransmissions as an application
 unfoldable pub rexmit : Meaning
@@ -49,7 +49,7 @@ rexmit = record {
 }
 
 asked-no_drop : (call : Call) → (rexmit_asked call).drop ≡ None
-asked-no_drop call = by (is_rcv_call 1 call)
+asked-no_drop call = by (is_call Rcv 1 call)
   where
     by : (b : Bool) → (if b then switches_on 2 else asks_nothing).drop ≡ None
     by true = refl

@@ -318,13 +318,6 @@ built-next slots all i q nodes d within same short b up =
       order.1,
     )
 
-pub built-few : (slots : List Slot) (all : List Placed) (i : ℕ) (q : List ℕ) (nodes : List Node) → i ≤ length all → Built slots (take i all) q nodes → length nodes ≤ 1 + 8 * i
-built-few slots all i q nodes within b = omega (arith, b.few, length-take-le i all within)
-
-pub built-some : (slots : List Slot) (list : List Placed) (q : List ℕ) (nodes : List Node) → Built slots list q nodes → 0 < length nodes
-built-some slots list q [] b = absurd b.stepped
-built-some slots list q (top ∷ ns) b = omega arith
-
 pub built-room_at : (slots : List Slot) (all : List Placed) (i : ℕ) (q : List ℕ) (nodes : List Node) (p : List ℕ) (d : Node) → i ≤ length all
     → Built slots (take i all) q nodes → (get_or (nodes ++ fresh_nodes i q p) (length (nodes ++ fresh_nodes i q p) - 1) d).count ≤ i
 built-room_at slots all i q nodes p d within b =

@@ -12,7 +12,7 @@ use Rattle.event_trees.specs.declared.defs.EventDef.{EventDef}
 use Rattle.event_trees.specs.Defs.{found, is_root, is_event, path}
 use Rattle.event_trees.specs.Private.{numbers_of}
 use Rattle.event_trees.specs.Canon.{Placed, placed, canon_of, canon}
-use Rattle.shared_forest.specs.Key.{is_hook}
+use Rattle.native_filters.specs.Hook.{is_hook}
 use Rattle.event_trees.specs.Fires.{filter_means, filters_mean, begins_with, is_called, fires}
 use Rattle.event_trees.specs.Walk.{asks, keeps, passes, called, firing}
 use Rattle.event_trees.specs.ReadOff.{read_off}

@@ -11,7 +11,7 @@ use Rattle.app_api.specs.declared.hearers.Hearers.{Hearers}
 use Rattle.app_api.specs.declared.hearers.Hearers.TheVariants.{Nobody, One, More}
 use Rattle.app_api.specs.Hearers.{joined, deep, is_any}
 use Rattle.app_api.specs.HearerLaws.{joined-assoc, deep-joined, if-joined, if-nobody, any-joined}
-use Rattle.shared_forest.specs.Key.{is_hook}
+use Rattle.native_filters.specs.Hook.{is_hook}
 use Rattle.shared_forest.specs.Listing.{Shown}
 use Rattle.shared_forest.specs.Heard.{with_hook, on_path, hearers_of, is_heard}
 use Rattle.app_api.specs.declared.registration.Reg.{Reg}

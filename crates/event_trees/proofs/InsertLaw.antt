@@ -158,10 +158,6 @@ pub final-end : (place : ℕ) (n : Node) (ns : List Node) (mid : ℕ) → ArePac
 final-end place n [] mid h = omega (arith, h.0, h.1)
 final-end place n (m ∷ ns) mid h = final-end (place + n.count) m ns mid h.1
 
-final-append : (n : Node) (ns : List Node) (m : Node) (ms : List Node) → final n (ns ++ m ∷ ms) ≡ final m ms
-final-append n [] m ms = refl
-final-append n (x ∷ ns) m ms = final-append x ns m ms
-
 final-chain : (first d e : ℕ) (es : List ℕ) (n : Node) → ((final n (chain first d (e ∷ es))).first ≡ first) × ((final n (chain first d (e ∷ es))).count ≡ 0)
 final-chain first d e [] n = (refl, refl)
 final-chain first d e (x ∷ es) n = final-chain first (d + 1) x es n

@@ -13,7 +13,7 @@ use Rattle.event_trees.specs.declared.defs.EventDef.{EventDef}
 use Rattle.event_trees.specs.Defs.{found, is_root, is_event, path, IsAddable, AreAddable, AreDefs}
 use Rattle.event_trees.specs.Private.{path_cmp, reg_cmp, IsPrivate, put_reg, edited}
 use Rattle.event_trees.specs.Canon.{Placed, slot_of, placed_of, placed, canon_of, canon}
-use Rattle.shared_forest.specs.Key.{is_hook}
+use Rattle.native_filters.specs.Hook.{is_hook}
 use Rattle.event_trees.specs.Fires.{filter_means, filters_mean, begins_with, is_called, fires}
 use Rattle.event_trees.specs.Later.{IsEarlier}
 use Rattle.event_trees.proofs.Paths.{KnowsPaths, IsRooted, knows, apart, path-push_other, found-push_other}

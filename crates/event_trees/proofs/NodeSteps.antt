@@ -14,9 +14,6 @@ bumped-set (n ∷ m ∷ ns) d h =
     let at : length (n ∷ m ∷ ns) - 1 ≡ suc (length (m ∷ ns) - 1) = omega arith in
     ap (λ (k : ℕ). set (n ∷ m ∷ ns) k (record (get_or (n ∷ m ∷ ns) k d) { count = (get_or (n ∷ m ∷ ns) k d).count + 1 })) at ∙ ap (λ (l : List Node). n ∷ l) (bumped-set (m ∷ ns) d (omega arith))
 
-common-none_left : (p : List ℕ) → common [] p ≡ 0
-common-none_left p = refl
-
 common-none_right : (q : List ℕ) → common q [] ≡ 0
 common-none_right [] = refl
 common-none_right (a ∷ q) = refl
@@ -26,16 +23,6 @@ pub common-end : (q p : List ℕ) (i : ℕ) → i ≤ length q → i ≤ length 
 common-end q p i hq hp h =
     ⊎_elim (λ l. ap (λ (x : List ℕ). common (drop i q) x) (drop_all i p (h l)) ∙ common-none_right (drop i q))
     (λ g. ap (λ (x : List ℕ). common x (drop i p)) (drop_all i q g)) (cases_lt i (length q))
-
-common-split : (q p : List ℕ) (i : ℕ) → i < length q → i < length p → common (drop i q) (drop i p) ≡ cond (eqb (get_or q i 0) (get_or p i 0)) (suc (common (drop (i + 1) q) (drop (i + 1) p))) 0
-common-split q p i hq hp =
-    ap (λ (x : List ℕ). common x (drop i p)) (drop_more q i 0 hq) ∙ ap (λ (x : List ℕ). common (get_or q i 0 ∷ drop (i + 1) q) x) (drop_more p i 0 hp)
-
-pub common-differs : (q p : List ℕ) (i : ℕ) → i < length q → i < length p → get_or q i 0 ≢ get_or p i 0 → common (drop i q) (drop i p) ≡ 0
-common-differs q p i hq hp other = common-split q p i hq hp ∙ ap (λ (b : Bool). cond b (suc (common (drop (i + 1) q) (drop (i + 1) p))) 0) (ne_eqb (get_or q i 0) (get_or p i 0) other)
-
-pub common-more : (q p : List ℕ) (i : ℕ) → i < length q → i < length p → get_or q i 0 ≡ get_or p i 0 → common (drop i q) (drop i p) ≡ suc (common (drop (i + 1) q) (drop (i + 1) p))
-common-more q p i hq hp same = common-split q p i hq hp ∙ ap (λ (b : Bool). cond b (suc (common (drop (i + 1) q) (drop (i + 1) p))) 0) (eq-eqb (get_or q i 0) (get_or p i 0) same)
 
 pub uncounted-set : (ns : List Node) (d : Node) → 0 < length ns → set ns (length ns - 1) (record (get_or ns (length ns - 1) d) { count = (get_or ns (length ns - 1) d).count - 1 }) ≡ uncounted ns
 uncounted-set [] d h = absurd (omega arith)

@@ -55,10 +55,6 @@ Has p (x ∷ xs) = (x ≡ p) ⊎ Has p xs
 abbrev pub AllBelow : List (List ℕ) → List ℕ → Type 0
 AllBelow xs p = AllByRecursion (λ x. path_cmp x p ≡ Less) xs
 
-pub has_below : (xs : List (List ℕ)) (p y : List ℕ) → AllBelow xs p → Has y xs → path_cmp y p ≡ Less
-has_below [] p y all h = absurd h
-has_below (x ∷ xs) p y all h = ⊎_elim (λ e. subst (λ (z : List ℕ). path_cmp z p ≡ Less) e all.0) (λ k. has_below xs p y all.1 k) h
-
 -- each of these paths is above this one
 abbrev pub AllAbove : List ℕ → List (List ℕ) → Type 0
 AllAbove p xs = AllByRecursion (λ x. path_cmp p x ≡ Less) xs

@@ -54,12 +54,6 @@ pub found-push_other : (defs : List EventDef) (d : EventDef) (event : ℕ) → d
 found-push_other [] d event h = ap (λ (b : Bool). cond b (Some d) None) (eqb_other d.number event h)
 found-push_other (c ∷ cs) d event h = ap (λ (o : Option EventDef). cond (eqb c.number event) (Some c) o) (found-push_other cs d event h)
 
-pub found-number : (defs : List EventDef) (event : ℕ) (d : EventDef) → found defs event ≡ Some d → d.number ≡ event
-found-number [] event d h = cc
-found-number (c ∷ cs) event d h =
-    ⊎_elim (λ t. let e : Some c ≡ Some d = sym (ap (λ (b : Bool). cond b (Some c) (found cs event)) t.0) ∙ h in let s : c ≡ d = cc in subst (λ (x : EventDef). x.number ≡ event) s t.1)
-    (λ t. found-number cs event d (sym (ap (λ (b : Bool). cond b (Some c) (found cs event)) t.0) ∙ h)) (eqb_tells c.number event)
-
 -- a path begins with a built-in event, and each further one has a definition
 abbrev pub IsRooted : List EventDef → List ℕ → Type 0
 IsRooted defs [] = ⊥

@@ -49,14 +49,6 @@ pub record Reaching (nodes : List Node) (path : List ℕ) (i depth : ℕ) : Type
   pub shared : depth ≡ common (last_path (take i nodes)) path
   pub laid : AreLaidOut (length (last_path (take i nodes))) (drop i nodes)
 
-top_up : (p : List ℕ) → IsUpTo [] p
-top_up [] = refl
-top_up (a ∷ p) = refl
-
-pub reaching-first : (nodes : List Node) (slots : List Slot) (path : List ℕ) → IsTree nodes slots → Reaching nodes path 1 0
-reaching-first [] slots path tree = absurd tree.topped
-reaching-first (top ∷ ns) slots path tree = record { up_to = top_up path; shared = refl; laid = tree.topped.3 }
-
 pub last-more : (nodes : List Node) (i : ℕ) (d : Node) → 1 ≤ i → i < length nodes → last_path (take (i + 1) nodes) ≡ path_after (last_path (take i nodes)) (get_or nodes i d)
 last-more [] i d low within = absurd (omega (arith, within))
 last-more (top ∷ ns) zero d low within = absurd (omega (arith, low))
@@ -66,9 +58,6 @@ last-more (top ∷ ns) (suc i) d low within =
 at_node : (nodes : List Node) (path : List ℕ) (i depth : ℕ) (d : Node) → i < length nodes → Reaching nodes path i depth
     → AreLaidOut (length (last_path (take i nodes))) (get_or nodes i d ∷ drop (i + 1) nodes)
 at_node nodes path i depth d within r = subst (AreLaidOut (length (last_path (take i nodes)))) (drop_more nodes i d within) r.laid
-
-pub reaching-low : (nodes : List Node) (path : List ℕ) (i depth : ℕ) (d : Node) → i < length nodes → Reaching nodes path i depth → 1 ≤ (get_or nodes i d).depth
-reaching-low nodes path i depth d within r = (at_node nodes path i depth d within r).0
 
 pub reaching-near : (nodes : List Node) (path : List ℕ) (i depth : ℕ) (d : Node) → i < length nodes → Reaching nodes path i depth → (get_or nodes i d).depth ≤ length (last_path (take i nodes)) + 1
 reaching-near nodes path i depth d within r = (at_node nodes path i depth d within r).1
@@ -98,13 +87,4 @@ reach-here nodes path i depth d low within r later = record {
   up_to = r.up_to;
   shared = r.shared;
   later = λ _. ap (path_cmp path) (last-more nodes i d low within) ∙ later;
-}
-
-pub reach-end : (nodes : List Node) (path : List ℕ) (i depth : ℕ) → 1 ≤ i → i ≡ length nodes → Reaching nodes path i depth → IsReach nodes path i depth
-reach-end nodes path i depth low all r = record {
-  low = low;
-  within = omega (arith, all);
-  up_to = r.up_to;
-  shared = r.shared;
-  later = λ some. absurd (omega (arith, some, all));
 }

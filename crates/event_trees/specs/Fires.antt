@@ -1,10 +1,10 @@
 -- Which registrations of a private list a raise calls.
 use Rattle.std.specs.Prelude.{ℕ, Bool, true, false, ◌&&◌, ◌==◌, Option, Some, None, List, [], ◌∷◌}
-use Rattle.std.specs.List.{filter, list_any}
+use Rattle.std.specs.List.{filter, list_all, list_any}
 use Rattle.native_filters.specs.declared.facts.Facts.{Facts}
 use Rattle.native_filters.specs.declared.facts.Hook.{Hook}
 use Rattle.filter_lang.specs.Meaning.{meaning}
-use Rattle.shared_forest.specs.Key.{is_hook}
+use Rattle.native_filters.specs.Hook.{is_hook}
 use Rattle.app_api.specs.declared.registration.Reg.{Reg}
 use Rattle.event_trees.specs.declared.defs.EventDef.{EventDef}
 use Rattle.event_trees.specs.Defs.{found, path}
@@ -15,8 +15,7 @@ filter_means None facts = true
 filter_means (Some d) facts = meaning d.filter facts
 
 abbrev pub filters_mean : List EventDef → Facts → List ℕ → Bool
-filters_mean defs facts [] = true
-filters_mean defs facts (e ∷ es) = filter_means (found defs e) facts && filters_mean defs facts es
+filters_mean defs facts events = list_all (λ e. filter_means (found defs e) facts) events
 
 abbrev pub begins_with : ℕ → List ℕ → Bool
 begins_with event [] = false

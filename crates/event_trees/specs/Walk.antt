@@ -6,7 +6,7 @@ use Rattle.native_filters.specs.declared.facts.Hook.{Hook}
 use Rattle.filter_lang.specs.Meaning.{meaning}
 use Rattle.shared_forest.specs.declared.node.Node.{Node}
 use Rattle.shared_forest.specs.declared.node.Slot.{Slot}
-use Rattle.shared_forest.specs.Key.{is_hook}
+use Rattle.native_filters.specs.Hook.{is_hook}
 use Rattle.shared_forest.specs.Listing.{Shown, slots_of}
 use Rattle.event_trees.specs.declared.defs.EventDef.{EventDef}
 use Rattle.event_trees.specs.Defs.{found}

@@ -9,7 +9,9 @@ use Rattle.native_filters.specs.declared.facts.Hook.{Hook}
 use Rattle.app_api.specs.declared.registration.Reg.{Reg}
 use Rattle.app_api.specs.Numbers.{all_differ}
 use Rattle.app_api.specs.Reg.{is_preset, are_presets, peek_fits}
-use Rattle.app_api.specs.Events.{allows_hook, is_rcv}
+use Rattle.native_filters.specs.Hook.{is_hook}
+use Rattle.native_filters.specs.declared.facts.Hook.TheVariants.{Rcv}
+use Rattle.app_api.specs.Events.{allows_hook}
 use Rattle.app_api.specs.EventLaws.{allowed-built_in}
 use Rattle.event_trees.specs.declared.defs.EventDef.{EventDef}
 use Rattle.event_trees.specs.Defs.{is_event, is_root, found}
@@ -72,7 +74,7 @@ pub preset-fits : (regs : List Reg) (r : Reg) (presets : List Reg) → ArePuttab
 preset-fits regs r presets h =
     let range : Bool = leb 1 r.number && leb r.number 15 in
     let is = and_parts (is_preset r) (list_all is_preset presets) h.fit in
-    let four = and_parts (range && allows_hook r.event r.hook && peek_fits r.peek) (not (is_rcv r.hook && r.action.drop)) is.0 in
+    let four = and_parts (range && allows_hook r.event r.hook && peek_fits r.peek) (not (is_hook r.hook Rcv && r.action.drop)) is.0 in
     let three = and_parts (range && allows_hook r.event r.hook) (peek_fits r.peek) four.0 in
     let two = and_parts range (allows_hook r.event r.hook) three.0 in
     let one = and_parts (leb 1 r.number) (leb r.number 15) two.0 in

@@ -3,7 +3,9 @@ use Rattle.std.specs.Prelude.{◌≡◌, ℕ, ◌≤◌, IsTrue, false, ◌&&◌
 use Rattle.std.specs.List.{list_all}
 use Rattle.app_api.specs.declared.registration.Reg.{Reg}
 use Rattle.app_api.specs.declared.rule.Rule.{Rule}
-use Rattle.app_api.specs.Events.{LAST, is_rcv, allows_hook}
+use Rattle.native_filters.specs.Hook.{is_hook}
+use Rattle.native_filters.specs.declared.facts.Hook.TheVariants.{Rcv}
+use Rattle.app_api.specs.Events.{LAST, allows_hook}
 use Rattle.app_api.specs.Reg.{peek_fits, reg_of}
 use Rattle.event_trees.specs.declared.defs.EventDef.{EventDef}
 use Rattle.event_trees.specs.Defs.{found, is_event, path}
@@ -50,7 +52,7 @@ root defs event = slice_index (path defs event) 0
 
 -- whether a registration may stand under a built-in event: the event is raised at its hook, and only a hook at the sender drops
 abbrev pub hook_may_be : ℕ → Reg → Bool
-hook_may_be event r = allows_hook event r.hook && not (is_rcv r.hook && r.action.drop)
+hook_may_be event r = allows_hook event r.hook && not (is_hook r.hook Rcv && r.action.drop)
 
 -- why an event can't be defined
 abbrev pub event_refusal : List EventDef → EventDef → Option Refusal

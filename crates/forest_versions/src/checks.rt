@@ -2,7 +2,7 @@
 
 ghost use Rattle.std.specs.Prelude.{◌≡◌, slice_index, is_some};
 ghost use Rattle.std.specs.Option.{option_copied};
-ghost use Rattle.app_api.specs.Events.{is_rcv, allows_hook};
+ghost use Rattle.app_api.specs.Events.{allows_hook};
 ghost use Rattle.app_api.specs.Reg.{reg_of};
 ghost use Rattle.forest_versions.specs.Lawful.{event_refusal, reg_refusal, taken, missing, hook_may_be};
 

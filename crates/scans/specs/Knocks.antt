@@ -4,7 +4,7 @@ use Rattle.std.specs.List.{list_all}
 use Rattle.std.proofs.Common.{lit≤}
 use Rattle.native_filters.specs.declared.facts.Facts.{Facts}
 use Rattle.native_filters.specs.declared.facts.Hook.TheVariants.{Snd, Rcv}
-use Rattle.native_filters.specs.Native.{has_bits, native, rst}
+use Rattle.native_filters.specs.Native.{has_bits, native}
 use Rattle.app_api.specs.declared.app.Call.{Call}
 use Rattle.app_api.specs.declared.app.Tally.{Tally}
 use Rattle.app_api.specs.declared.registration.Reg.{Reg}
@@ -13,25 +13,25 @@ use Rattle.app_api.specs.Events.{PKT_IN, STATE, allows_hook}
 use Rattle.app_api.specs.Reaction.{asks_nothing}
 use Rattle.app_api.specs.Reg.{preset_reg}
 use Rattle.app_api.specs.Tally.{zeros}
-use Rattle.app_traffic.specs.Counting.{plus_if, set_if, is_snd_call_of, is_rcv_call_of}
+use Rattle.app_traffic.specs.Counting.{plus_if, set_if, is_call_of}
 
 abbrev pub has_rst : Facts → Bool
-has_rst f = has_bits f.flags rst
+has_rst f = has_bits f.flags 4
 
 -- a SYN without ACK of the client
 abbrev pub is_knock : Call → Bool
-is_knock call = is_snd_call_of 1 0 call && native 0 call.facts
+is_knock call = is_call_of Snd 1 0 call && native 0 call.facts
 
 -- any packet of the server, and one by which it refuses
 abbrev pub is_answer : Call → Bool
-is_answer call = is_snd_call_of 1 1 call
+is_answer call = is_call_of Snd 1 1 call
 
 abbrev pub is_refusal : Call → Bool
 is_refusal call = is_answer call && has_rst call.facts
 
 -- the server came to ESTABLISHED, which is 4: as the sender of what goes down, or as the receiver of what goes up
 abbrev pub is_opened : Call → Bool
-is_opened call = (is_snd_call_of 2 1 call || is_rcv_call_of 3 0 call) && call.facts.new == 4
+is_opened call = (is_call_of Snd 2 1 call || is_call_of Rcv 3 0 call) && call.facts.new == 4
 
 -- the tally after a call: SYNs, and whether the server answered, refused, and came to ESTABLISHED
 abbrev pub counted : Tally → Call → Tally

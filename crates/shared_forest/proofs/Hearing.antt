@@ -13,7 +13,7 @@ use Rattle.app_api.specs.Hearers.{joined, deep}
 use Rattle.app_api.specs.HearerLaws.{joined-assoc, deep-joined, if-joined, if-nobody}
 use Rattle.shared_forest.specs.Layout.{under, AreLaidOut, ArePacked}
 use Rattle.shared_forest.specs.Listing.{slots_of, path_after, listing_after}
-use Rattle.shared_forest.specs.Key.{is_hook}
+use Rattle.native_filters.specs.Hook.{is_hook}
 use Rattle.shared_forest.specs.Heard.{with_hook, on_path, hearers_of}
 use Rattle.shared_forest.proofs.OneListing.{packed-le}
 use Rattle.shared_forest.proofs.FromRootToRoot.{no_node, packed-up, next-is, deeper, under-root}

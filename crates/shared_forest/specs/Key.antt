@@ -3,18 +3,12 @@ use Rattle.std.specs.Prelude.{ℕ, Bool, true, false, ◌==◌, ◌&&◌, ◌++�
 use Rattle.std.specs.Cmp.Lexicographic.{pointwise}
 use Rattle.std.specs.Hash as fed
 use Rattle.std.specs.Hash.{HashWrites}
+use Rattle.native_filters.specs.Hook.{is_hook}
 use Rattle.native_filters.specs.declared.facts.Hook.{Hook}
 use Rattle.native_filters.specs.declared.facts.Hook.TheVariants.{Snd, Rcv}
 use Rattle.shared_forest.specs.declared.node.Node.{Node}
 use Rattle.shared_forest.specs.declared.node.Slot.{Slot}
 use Rattle.shared_forest.specs.Lists.{TreeLists}
-
--- whether two sides are one
-abbrev pub is_hook : Hook → Hook → Bool
-is_hook Snd Snd = true
-is_hook Rcv Rcv = true
-is_hook Snd Rcv = false
-is_hook Rcv Snd = false
 
 abbrev pub same_node : Node → Node → Bool
 same_node a b =

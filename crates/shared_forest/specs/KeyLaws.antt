@@ -12,7 +12,8 @@ use Rattle.shared_forest.specs.declared.node.Slot.{Slot}
 use Rattle.shared_forest.specs.contracts.node.NodePartialEq.TheImpl.{ghosts as node_test}
 use Rattle.shared_forest.specs.contracts.node.SlotPartialEq.TheImpl.{ghosts as slot_test}
 use Rattle.shared_forest.specs.Lists.{TreeLists}
-use Rattle.shared_forest.specs.Key.{is_hook, same_node, same_slot, same_tree, node_fed, slot_fed, tree_fed}
+use Rattle.native_filters.specs.Hook.{is_hook}
+use Rattle.shared_forest.specs.Key.{same_node, same_slot, same_tree, node_fed, slot_fed, tree_fed}
 
 -- each test decides whether two are the same
 is_hook-Decides : (a b : Hook) → Decides (is_hook a b) (a ≡ b)

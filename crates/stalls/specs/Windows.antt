@@ -3,7 +3,7 @@ use Rattle.std.specs.Prelude.{◌≡◌, ℕ, Bool, true, false, not, ◌&&◌, 
 use Rattle.std.proofs.Common.{lit≤}
 use Rattle.native_filters.specs.declared.facts.Facts.{Facts}
 use Rattle.native_filters.specs.declared.facts.Hook.TheVariants.{Snd, Rcv}
-use Rattle.native_filters.specs.Native.{has_bits, rst}
+use Rattle.native_filters.specs.Native.{has_bits}
 use Rattle.app_api.specs.declared.app.Call.{Call}
 use Rattle.app_api.specs.declared.app.Tally.{Tally}
 use Rattle.app_api.specs.declared.reaction.Reaction.{Reaction}
@@ -12,10 +12,10 @@ use Rattle.app_api.specs.Events.{PKT_IN, ERROR, allows_hook}
 use Rattle.app_api.specs.Reaction.{asks_nothing}
 use Rattle.app_api.specs.Reg.{preset_reg}
 use Rattle.app_api.specs.Tally.{zeros}
-use Rattle.app_traffic.specs.Counting.{plus_if, is_snd_call, is_rcv_call}
+use Rattle.app_traffic.specs.Counting.{plus_if, is_call}
 
 abbrev pub has_rst : Facts → Bool
-has_rst f = has_bits f.flags rst
+has_rst f = has_bits f.flags 4
 
 -- whose packet it is: 1 the client's, 2 the server's
 abbrev pub side_of : ℕ → ℕ
@@ -30,7 +30,7 @@ opens t f = not (has_rst f) && (not (f.win == 0) && t.t4 == side_of f.dir)
 
 -- the call for such a packet, from this side
 abbrev pub is_closed_by : ℕ → Call → Bool
-is_closed_by side call = is_snd_call 1 call && (closes call.facts && side_of call.facts.dir == side)
+is_closed_by side call = is_call Snd 1 call && (closes call.facts && side_of call.facts.dir == side)
 
 -- whose window is closed after a packet was sent: 0 nobody's
 abbrev pub closed_after : Tally → Facts → ℕ
@@ -48,13 +48,13 @@ abbrev pub noted : Tally → Call → Tally
 noted t call = record t {
   t0 = plus_if (is_closed_by 1 call) t.t0 1;
   t1 = plus_if (is_closed_by 2 call) t.t1 1;
-  t2 = plus_if (is_rcv_call 2 call) t.t2 1;
-  t3 = plus_if (is_rcv_call 3 call) t.t3 (bit_and call.facts.fault 1);
-  t4 = if is_snd_call 1 call then closed_after t call.facts else t.t4;
+  t2 = plus_if (is_call Rcv 2 call) t.t2 1;
+  t3 = plus_if (is_call Rcv 3 call) t.t3 (bit_and call.facts.fault 1);
+  t4 = if is_call Snd 1 call then closed_after t call.facts else t.t4;
 }
 
 abbrev pub asked : Tally → Call → Reaction
-asked t call = if is_snd_call 1 call then asked_by t call.facts else asks_nothing
+asked t call = if is_call Snd 1 call then asked_by t call.facts else asks_nothing
 
 unfoldable pub stalls : Meaning
 stalls = record {
@@ -82,5 +82,5 @@ stalls-lawful = record {
   by_number = refl;
   names = λ t. refl;
   few = λ t. lit≤ tt;
-  no_drop = λ t call rules rcv. no_drop-by (is_snd_call 1 call) (closes call.facts) (opens t call.facts);
+  no_drop = λ t call rules rcv. no_drop-by (is_call Snd 1 call) (closes call.facts) (opens t call.facts);
 }
