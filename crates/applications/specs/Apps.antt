@@ -1,5 +1,5 @@
 -- The applications of mos, each with its kind, the word that names it, and what it answers.
-use Rattle.std.specs.Prelude.{ℕ, List, [], ◌∷◌, ◌++◌, find, codes, Option, option_map}
+use Rattle.std.specs.Prelude.{ℕ, List, [], ◌∷◌, find, codes, Option, option_map}
 use Rattle.std.specs.Str.{bytes_eq}
 use Rattle.app_api.specs.App.{Meaning, IsLawful}
 use Rattle.app_api.specs.Log.{log, log-lawful}
@@ -26,12 +26,6 @@ lawful_app Acct = acct-lawful
 lawful_app Rexmit = rexmit-lawful
 lawful_app Firewall = firewall-lawful
 
--- the kind that a word names
-abbrev pub kind_named : List ℕ → Option AppKind
-kind_named word = option_map (λ row. row.1) (find (λ row. bytes_eq word row.0) apps)
-
--- texts behind one another, with a bar (124) between two
-abbrev pub barred : List (List ℕ) → List ℕ
-barred [] = []
-barred (text ∷ []) = text
-barred (text ∷ next ∷ texts) = text ++ 124 ∷ barred (next ∷ texts)
+-- what a word names in a table of words
+abbrev pub named_in : {X : Type 0} → List (List ℕ × X) → List ℕ → Option X
+named_in table word = option_map (λ row. row.1) (find (λ row. bytes_eq word row.0) table)

@@ -1,7 +1,7 @@
 //! The applications of mos by their kinds.
 
 ghost use Rattle.std.specs.Prelude.{◌≡◌};
-ghost use Rattle.applications.specs.Apps.{kind_named};
+ghost use Rattle.applications.specs.Apps.{apps, named_in};
 
 use app_api::{App, Call, LogApp, Reaction, Reg, Rule, Tally};
 use app_firewall::FirewallApp;
@@ -32,7 +32,7 @@ macro_rules! around_app_words {
 
 /// The kind that a word names.
 pub fn kind_named(word: &str) -> Option<AppKind>
-    ensures { result ≡ kind_named word.now }
+    ensures { result ≡ named_in apps word.now }
 {
     match word {
         "log" => Some(AppKind::Log),

@@ -71,14 +71,6 @@ length-turns_of n = let all = weighed_turns (λ _. 1) n in omega (arith, counted
 
 -- ---- how long a record is
 
-pub length-four_bytes : (n : ℕ) → length (four_bytes n) ≡ 4
-unfolding four_bytes
-length-four_bytes n = refl
-
-length-two_bytes : (n : ℕ) → length (two_bytes n) ≡ 2
-unfolding two_bytes
-length-two_bytes n = refl
-
 pub length-head_of : (index : ℕ) (s : Segment) → length (record_head index s) ≡ 16
 unfolding record_head four_bytes
 length-head_of index s = refl

@@ -6,19 +6,12 @@ use Rattle.capture_maker.specs.declared.step.Step.{Step}
 use Rattle.capture_maker.specs.declared.step.Step.TheVariants.{Syn, SynAck, Opened, Request, LateHalf, FirstHalf, Repeated, ClientFin, ServerFin, LastAck}
 use Rattle.capture_maker.specs.declared.step.Segment.{Segment}
 
--- the sequence numbers of both SYNs
-abbrev pub client_number : ℕ → ℕ
-client_number c = c * 2654435761 % 2 ^ 32
-
-abbrev pub server_number : ℕ → ℕ
-server_number c = (client_number c + 2 ^ 31) % 2 ^ 32
-
--- numbers of the client and of the server, so many behind those of their SYNs
+-- sequence numbers of the client and of the server, so many behind those of their SYNs
 abbrev pub in_client : ℕ → ℕ → ℕ
-in_client c n = (client_number c + n) % 2 ^ 32
+in_client c n = (c * 2654435761 + n) % 2 ^ 32
 
 abbrev pub in_server : ℕ → ℕ → ℕ
-in_server c n = (server_number c + n) % 2 ^ 32
+in_server c n = (c * 2654435761 + 2 ^ 31 + n) % 2 ^ 32
 
 -- a segment without payload, and one with PSH, ACK and so many bytes from this position of the sender's bytes on
 abbrev pub bare : Sender → ℕ → ℕ → ℕ → Segment
@@ -29,8 +22,8 @@ pushed sender seq ack first count = record { sender = sender; flags = 0x18; seq 
 
 -- what a connection sends in a step: flags 02 SYN, 10 ACK, 12 SYN and ACK, 11 FIN and ACK
 unfoldable pub step_segment : Step → ℕ → Segment
-step_segment Syn c = bare Client 0x02 (client_number c) 0
-step_segment SynAck c = bare Server 0x12 (server_number c) (in_client c 1)
+step_segment Syn c = bare Client 0x02 (in_client c 0) 0
+step_segment SynAck c = bare Server 0x12 (in_server c 0) (in_client c 1)
 step_segment Opened c = bare Client 0x10 (in_client c 1) (in_server c 1)
 step_segment Request c = pushed Client (in_client c 1) (in_server c 1) 0 64
 step_segment LateHalf c = pushed Server (in_server c 101) (in_client c 65) 100 100

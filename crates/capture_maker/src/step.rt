@@ -1,7 +1,7 @@
 //! The steps of a connection: who sends what.
 
 ghost use Rattle.std.specs.Prelude.{◌≡◌, ℕ, ◌≤◌};
-ghost use Rattle.capture_maker.specs.Table.{client_number, step_segment, server_number};
+ghost use Rattle.capture_maker.specs.Table.{in_client, in_server, step_segment};
 
 // Flags of the TCP header.
 const SYN: u8 = 0x02;
@@ -74,18 +74,18 @@ pub struct Segment {
     pub count: u32,
 }
 
-// The sequence number of the client's SYN.
-fn client_syn(connection: u32) -> u32
-    ensures { result ≡ client_number connection }
+// A sequence number of the client, so many behind that of its SYN.
+fn in_client(connection: u32, behind: u32) -> u32
+    ensures { result ≡ in_client connection behind }
 {
-    connection.wrapping_mul(2_654_435_761)
+    connection.wrapping_mul(2_654_435_761).wrapping_add(behind)
 }
 
-// The sequence number of the server's SYN.
-fn server_syn(connection: u32) -> u32
-    ensures { result ≡ server_number connection }
+// A sequence number of the server, so many behind that of its SYN.
+fn in_server(connection: u32, behind: u32) -> u32
+    ensures { result ≡ in_server connection behind }
 {
-    client_syn(connection).wrapping_add(1 << 31)
+    in_client(connection, 1 << 31).wrapping_add(behind)
 }
 
 // A segment without payload.
@@ -123,23 +123,21 @@ pub(crate) fn segment_in(step: Step, connection: u32) -> Segment
     ensures first { result.first ≤ 100 }
     ensures count { result.count ≤ 100 }
 {
-    let client = client_syn(connection);
-    let server = server_syn(connection);
     // The numbers behind the client's SYN, its bytes and its FIN, and behind the server's SYN and its bytes.
-    let opened = client.wrapping_add(1);
-    let asked = client.wrapping_add(65);
-    let closed = client.wrapping_add(66);
-    let answered = server.wrapping_add(1);
-    let told = server.wrapping_add(201);
+    let opened = in_client(connection, 1);
+    let asked = in_client(connection, 65);
+    let closed = in_client(connection, 66);
+    let answered = in_server(connection, 1);
+    let told = in_server(connection, 201);
     match step {
-        Step::Syn => bare(Sender::Client, SYN, client, 0),
-        Step::SynAck => bare(Sender::Server, SYN_ACK, server, opened),
+        Step::Syn => bare(Sender::Client, SYN, in_client(connection, 0), 0),
+        Step::SynAck => bare(Sender::Server, SYN_ACK, in_server(connection, 0), opened),
         Step::Opened => bare(Sender::Client, ACK, opened, answered),
         Step::Request => pushed(Sender::Client, opened, answered, 0, 64),
-        Step::LateHalf => pushed(Sender::Server, server.wrapping_add(101), asked, 100, 100),
+        Step::LateHalf => pushed(Sender::Server, in_server(connection, 101), asked, 100, 100),
         Step::FirstHalf | Step::Repeated => pushed(Sender::Server, answered, asked, 0, 100),
         Step::ClientFin => bare(Sender::Client, FIN_ACK, asked, told),
         Step::ServerFin => bare(Sender::Server, FIN_ACK, told, closed),
-        Step::LastAck => bare(Sender::Client, ACK, closed, server.wrapping_add(202)),
+        Step::LastAck => bare(Sender::Client, ACK, closed, in_server(connection, 202)),
     }
 }

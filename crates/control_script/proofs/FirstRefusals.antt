@@ -8,7 +8,7 @@ use Rattle.control_script.specs.declared.error.ScriptError.{ScriptError}
 use Rattle.control_script.specs.declared.stamped.Stamped.{Stamped}
 use Rattle.control_script.specs.Laws.{number_behind, IsFirstRefused, SeesWhatItMust}
 use Rattle.control_script.specs.Lines.{lines, without_return, next_line}
-use Rattle.control_script.specs.Script.{line_read, then_lines, lines_read, script}
+use Rattle.control_script.specs.Script.{line_read, unless_refused, lines_read, script}
 use Rattle.control_script.specs.Versions.{is_forced, is_barred, behind_one, floor, ceil}
 
 -- the number of a line so many behind one
@@ -33,7 +33,7 @@ record FirstRefused (presets : List Reg) (n : ℕ) (ls : List (List ℕ)) (acc :
 
 at-line : (presets : List Reg) (n : ℕ) (l : List ℕ) (ls : List (List ℕ)) (acc : List Stamped) (e : ScriptError)
     (r : Result (List Stamped) ScriptError) → line_read presets n acc (without_return l) ≡ r
-    → then_lines (lines_read presets (next_line n) ls) r ≡ Err e → ((now : List Stamped) → lines_read presets (next_line n) ls now ≡ Err e
+    → unless_refused (lines_read presets (next_line n) ls) r ≡ Err e → ((now : List Stamped) → lines_read presets (next_line n) ls now ≡ Err e
     → FirstRefused presets (next_line n) ls now e) → FirstRefused presets n (l ∷ ls) acc e
 at-line presets n l ls acc e (Ok now) is h more =
     let found = more now h in
@@ -43,7 +43,7 @@ at-line presets n l ls acc e (Ok now) is h more =
       after = found.after;
       commands = found.commands;
       whole = ap (λ ms. l ∷ ms) found.whole;
-      read = ap (then_lines (lines_read presets (next_line n) found.before)) is ∙ found.read;
+      read = ap (unless_refused (lines_read presets (next_line n) found.before)) is ∙ found.read;
       refused = found.refused;
     }
 at-line presets n l ls acc e (Err f) is h more =

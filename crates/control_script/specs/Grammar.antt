@@ -14,14 +14,14 @@ use Rattle.std.specs.Option.{option_map, option_or, unwrap_or}
 use Rattle.std.specs.Str.{bytes_eq}
 use Rattle.std.specs.Char.{is_ascii_alphabetic}
 use Rattle.number_text.specs.Numbers.{number_between}
-use Rattle.native_filters.specs.declared.facts.Hook.{Hook}
 use Rattle.native_filters.specs.declared.facts.Hook.TheVariants.{Snd, Rcv}
 use Rattle.reassembly.specs.declared.answers.Policy.TheVariants.{First, Last}
 use Rattle.app_api.specs.Names.{event_named}
-use Rattle.app_api.specs.declared.registration.PeekSpec.TheVariants.{Nothing, Next as NextBytes, At as BytesAt}
+use Rattle.app_api.specs.Reg.{preset_reg}
+use Rattle.app_api.specs.declared.registration.PeekSpec.TheVariants.{Next as NextBytes, At as BytesAt}
 use Rattle.app_api.specs.declared.registration.Reg.{Reg}
 use Rattle.filter_lang.specs.declared.error.FilterError.{FilterError}
-use Rattle.filter_lang.specs.declared.error.FilterError.TheVariants.{Syntax as BadSyntax, UnknownName as BadName, BigNumber as BadNumber, TooDeep as BadDepth, NoMemory as OutOfMemory}
+use Rattle.filter_lang.specs.declared.error.FilterError.TheVariants.{UnknownName as BadName, TooDeep as BadDepth, NoMemory as OutOfMemory}
 use Rattle.filter_lang.specs.Grammar.{filter}
 use Rattle.filter_lang.specs.Shape.{Shape}
 use Rattle.forest_versions.specs.declared.command.Command.{Command}
@@ -38,17 +38,6 @@ use Rattle.control_script.specs.Words.{Word}
 
 abbrev pub stamped : Stamp → Command → Stamped
 stamped st c = record { stamp = st; command = c }
-
--- a registration as it is until more is said
-abbrev pub plain_reg : ℕ → ℕ → Hook → Reg
-plain_reg number event hook = record {
-  number = number;
-  event = event;
-  hook = hook;
-  on = true;
-  peek = Nothing;
-  action = record { drop = false; changes = [] };
-}
 
 abbrev pub dropping : Reg → Reg
 dropping r = record r { action = record { drop = true; changes = r.action.changes } }
@@ -112,12 +101,9 @@ abbrev pub go_with : {A : Type 0} → (A → WordPlace) → Option A → AfterWo
 go_with k None = stop Syntax
 go_with k (Some a) = go (k a)
 
-abbrev pub begins_with_letter : List ℕ → Bool
-begins_with_letter name = is_ascii_alphabetic (slice_index name 0)
-
 -- a word that is no event: a name that isn't known, or none
 abbrev pub unknown_event : List ℕ → AfterWord
-unknown_event w = if begins_with_letter w then stop UnknownName else stop Syntax
+unknown_event w = if is_ascii_alphabetic (slice_index w 0) then stop UnknownName else stop Syntax
 
 -- an event: a built-in one by its name, or one of a number
 abbrev pub next_event : (ℕ → AfterWord) → List ℕ → AfterWord
@@ -176,7 +162,7 @@ after_word (under_place st number) w = word_of ((codes "under", go (parent_place
 after_word (parent_place st number) w = next_event (λ e. rest (λ f. stamped st (Event (record { number = number; parent = e; filter = f })))) w
 after_word (event_place st number) w = next_event (λ e. go (hook_place st number e)) w
 after_word (hook_place st number event) w =
-    word_of ((codes "snd", go (hooked_place st (plain_reg number event Snd))) ∷ (codes "rcv", go (hooked_place st (plain_reg number event Rcv))) ∷ []) w
+    word_of ((codes "snd", go (hooked_place st (preset_reg number event Snd true))) ∷ (codes "rcv", go (hooked_place st (preset_reg number event Rcv true))) ∷ []) w
 after_word (hooked_place st r) w = word_or ((codes "off", go (switched_place st (record r { on = false }))) ∷ []) (next_switched st r w) w
 after_word (switched_place st r) w = next_switched st r w
 after_word (peeked_place st r) w = next_peeked st r w
@@ -192,11 +178,10 @@ after_word (end_place s) w = next_end s w
 
 -- a filter's refusal as the line's
 abbrev pub filter_fault : FilterError → ℕ → ScriptError
-filter_fault (BadSyntax at) n = Syntax n
 filter_fault (BadName at) n = UnknownName n
-filter_fault (BadNumber at) n = Syntax n
 filter_fault (BadDepth at) n = TooDeep n
 filter_fault OutOfMemory n = NoMemory
+filter_fault _ n = Syntax n
 
 abbrev pub with_filter : ℕ → (Shape → Stamped) → Result Shape FilterError → Result Stamped ScriptError
 with_filter n make (Ok f) = Ok (make f)

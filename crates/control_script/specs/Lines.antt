@@ -1,18 +1,13 @@
 -- The lines of a text.
 use Rattle.std.specs.Prelude.{ℕ, Bool, true, ◌&&◌, ◌||◌, ◌==◌, ◌+◌, min, not, if◌then◌else◌, nat_le, List, [], ◌∷◌}
-use Rattle.std.specs.List.{find}
+use Rattle.std.specs.List.{find, onto_first}
 use Rattle.std.specs.Option.{option_map, unwrap_or}
 use Rattle.filter_lang.specs.Tokens.{is_blank}
-
--- a byte before a line's others
-abbrev pub with_byte : ℕ → List (List ℕ) → List (List ℕ)
-with_byte b [] = (b ∷ []) ∷ []
-with_byte b (l ∷ ls) = (b ∷ l) ∷ ls
 
 -- the lines of a text end at each 0a; an empty rest behind the last is no line
 abbrev pub lines : List ℕ → List (List ℕ)
 lines [] = []
-lines (b ∷ bs) = if b == 10 then [] ∷ lines bs else with_byte b (lines bs)
+lines (b ∷ bs) = if b == 10 then [] ∷ lines bs else onto_first b (lines bs)
 
 -- without one 0d at the end
 abbrev pub without_return : List ℕ → List ℕ

@@ -1,6 +1,6 @@
 -- Only for proofs. What each function of the reader reads, as an equation between what the grammar says of the words before it and of
 -- those behind it.
-use Rattle.std.specs.Prelude.{◌≡◌, ◌≤◌, ℕ, ◌+◌, Bool, IsTrue, List, [], ◌∷◌, length, Option, IfSome, Result, Ok, Err, IfOk, IfErr}
+use Rattle.std.specs.Prelude.{◌≡◌, ◌≤◌, ℕ, ◌+◌, Bool, true, IsTrue, List, [], ◌∷◌, length, Option, IfSome, Result, Ok, Err, IfOk, IfErr}
 use Rattle.app_api.specs.declared.registration.Reg.{Reg}
 use Rattle.native_filters.specs.declared.facts.Hook.{Hook}
 use Rattle.reassembly.specs.declared.answers.Policy.{Policy}
@@ -12,7 +12,8 @@ use Rattle.control_script.specs.declared.nets.Net.{Net}
 use Rattle.control_script.specs.declared.nets.Ports.{Ports}
 use Rattle.control_script.specs.declared.stamped.Stamped.{Stamped}
 use Rattle.control_script.specs.declared.words.Words.{Words}
-use Rattle.control_script.specs.Grammar.{WordPlace, AfterWord, number_place, net_place, ports_place, parent_place, event_place, hook_place, hooked_place, switched_place, peeked_place, acting_place, action_place, policy_place, verb_place, rule_place, end_place, plain_reg, stamped, next_change, next_event, continued, line_from}
+use Rattle.app_api.specs.Reg.{preset_reg}
+use Rattle.control_script.specs.Grammar.{WordPlace, AfterWord, number_place, net_place, ports_place, parent_place, event_place, hook_place, hooked_place, switched_place, peeked_place, acting_place, action_place, policy_place, verb_place, rule_place, end_place, stamped, next_change, next_event, continued, line_from}
 use Rattle.control_script.specs.Words.{Word, words}
 
 -- nothing comes behind the end
@@ -78,7 +79,7 @@ pub record RefusesEvent (old : Words) (e : ScriptError) : Type 0 where
   pub own : (st : Stamp) (number : ℕ) → reads old (event_place st number) ≡ Err e
 
 pub record ReadsHook (old new : Words) (hook : Hook) : Type 0 where
-  pub same : (st : Stamp) (number event : ℕ) → reads old (hook_place st number event) ≡ reads new (hooked_place st (plain_reg number event hook))
+  pub same : (st : Stamp) (number event : ℕ) → reads old (hook_place st number event) ≡ reads new (hooked_place st (preset_reg number event hook true))
 
 pub record RefusesHook (old : Words) (e : ScriptError) : Type 0 where
   pub same : (st : Stamp) (number event : ℕ) → reads old (hook_place st number event) ≡ Err e

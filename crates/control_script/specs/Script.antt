@@ -36,22 +36,19 @@ admitted presets n before s =
     if list_any (λ b. is_later b.stamp s.stamp) before then Err (StampOrder n) else
     joined n before s (refusal (control presets (commands_of before)) s.command)
 
-abbrev pub admitted_said : List Reg → ℕ → List Stamped → Result Stamped ScriptError → Result (List Stamped) ScriptError
-admitted_said presets n before (Ok s) = admitted presets n before s
-admitted_said presets n before (Err e) = Err e
+-- goes on with what was read, unless that was refused
+abbrev pub unless_refused : {A : Type 0} → (A → Result (List Stamped) ScriptError) → Result A ScriptError → Result (List Stamped) ScriptError
+unless_refused k (Ok a) = k a
+unless_refused k (Err e) = Err e
 
 -- line n behind the commands of the lines before it
 abbrev pub line_read : List Reg → ℕ → List Stamped → List ℕ → Result (List Stamped) ScriptError
-line_read presets n before line = if is_skipped line then Ok before else admitted_said presets n before (said n line)
-
-abbrev pub then_lines : (List Stamped → Result (List Stamped) ScriptError) → Result (List Stamped) ScriptError → Result (List Stamped) ScriptError
-then_lines k (Ok script) = k script
-then_lines k (Err e) = Err e
+line_read presets n before line = if is_skipped line then Ok before else unless_refused (admitted presets n before) (said n line)
 
 -- lines from number n on
 abbrev pub lines_read : List Reg → ℕ → List (List ℕ) → List Stamped → Result (List Stamped) ScriptError
 lines_read presets n [] before = Ok before
-lines_read presets n (l ∷ ls) before = then_lines (lines_read presets (next_line n) ls) (line_read presets n before (without_return l))
+lines_read presets n (l ∷ ls) before = unless_refused (lines_read presets (next_line n) ls) (line_read presets n before (without_return l))
 
 -- true of the refusal that is told, where it isn't want of memory
 abbrev pub IfRefused : {T : Type 0} → Result T ScriptError → (ScriptError → Type 0) → Type 0

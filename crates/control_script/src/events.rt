@@ -1,11 +1,12 @@
 //! The names and numbers of events, and definitions of events.
 
-ghost use Rattle.std.specs.Prelude.{◌≡◌, ◌<◌, Ok, Err, IfOk, IfErr, IsTrue, length};
+ghost use Rattle.std.specs.Prelude.{◌≡◌, ◌<◌, Ok, Err, IfOk, IfErr, IsTrue, length, slice_index};
+ghost use Rattle.std.specs.Char.{is_ascii_alphabetic};
 ghost use Rattle.filter_lang.specs.Grammar.{filter};
 ghost use Rattle.filter_lang.specs.Shape.{Shape};
 ghost use Rattle.forest_versions.specs.Lawful.{may_be_event, is_within};
 ghost use Rattle.control_script.specs.declared.stamped.Stamped.{Stamped as StampedOf};
-ghost use Rattle.control_script.specs.Grammar.{number_place, under_place, begins_with_letter, unknown_event, with_filter};
+ghost use Rattle.control_script.specs.Grammar.{number_place, under_place, unknown_event, with_filter};
 ghost use Rattle.control_script.specs.Reader.{reads, takes, ReadsEvent, RefusesEvent};
 ghost use Rattle.control_script.specs.Script.{IfRefused};
 
@@ -23,7 +24,7 @@ use std::str::from_utf8;
 
 // Whether a word begins with a letter.
 fn begins_with_letter(word: &[u8]) -> bool
-    ensures { result ≡ begins_with_letter word.now }
+    ensures { result ≡ is_ascii_alphabetic (slice_index word.now 0) }
 {
     !word.is_empty() && word[0].is_ascii_alphabetic()
 }

@@ -1,8 +1,9 @@
 //! Registrations: their hook, whether they are on, what they peek and what they do.
 
-ghost use Rattle.std.specs.Prelude.{◌≡◌, ◌<◌, ◌++◌, [], ◌∷◌, length, Ok, Err, IfOk, IfErr, IsTrue};
+ghost use Rattle.std.specs.Prelude.{◌≡◌, ◌<◌, ◌++◌, [], ◌∷◌, length, Ok, Err, IfOk, IfErr, IsTrue, true};
+ghost use Rattle.app_api.specs.Reg.{preset_reg};
 ghost use Rattle.forest_versions.specs.Lawful.{is_within, is_reg_within};
-ghost use Rattle.control_script.specs.Grammar.{number_place, event_place, plain_reg, dropping, changing};
+ghost use Rattle.control_script.specs.Grammar.{number_place, event_place, dropping, changing};
 ghost use Rattle.control_script.specs.Reader.{reads, left, ReadsHook, RefusesHook, ReadsOff, ReadsPeek, RefusesPeek, ReadsAction, RefusesAction, ReadsChange, RefusesChange, ReadsActions, RefusesActions};
 
 use crate::error::ScriptError;
@@ -39,7 +40,7 @@ fn hook(words: &mut Words<'_>) -> Result<Hook, ScriptError>
 
 // A registration of which no more is said.
 fn plain_reg(number: u8, event: u16, hook: Hook) -> Reg
-    ensures { result ≡ plain_reg number event hook }
+    ensures { result ≡ preset_reg number event hook true }
 {
     Reg {
         number,

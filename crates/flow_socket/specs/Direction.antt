@@ -1,5 +1,6 @@
 -- One direction of a connection, as its emulated receiver accepts it (RFC 9293, sections 3.4 and 3.10.7.4).
-use Rattle.std.specs.Prelude.{ℕ, ◌+◌, ◌-◌, ◌%◌, ◌^◌, ℤ, pos, negsuc, Bool, true, false, ◌&&◌, nat_lt, max, List, Option, Some, None, unwrap_or, if◌then◌else◌}
+use Rattle.std.specs.Prelude.{ℕ, ◌+◌, ◌-◌, ◌%◌, ◌^◌, ℤ, pos, int_le, int_lt, Bool, false, ◌&&◌, max, List, Option, Some, None, unwrap_or, if◌then◌else◌}
+use Rattle.std.specs.Option.{option_map_or}
 use Rattle.packet_views.specs.declared.packet.Head.{Head}
 use Rattle.reassembly.specs.declared.answers.Policy.{Policy}
 use Rattle.reassembly.specs.declared.answers.Placed.{Placed}
@@ -45,14 +46,9 @@ origin_for h d = unwrap_or d.origin (origin_from h)
 abbrev pub distance_in : Head → Direction → ℤ
 distance_in h d = distance_of (next_in d) (origin_for h d).irs (first_number h)
 
--- the number is one of 0 to n - 1
-abbrev pub is_below : ℕ → ℤ → Bool
-is_below n (pos z) = nat_lt z n
-is_below n (negsuc z) = false
-
 -- the packet begins in the receive window, from before it; at next it does so also where that window is closed
 abbrev pub is_in_window : ℕ → Head → Direction → Bool
-is_in_window rbuf h d = is_below (max (wide_of d.receiver rbuf) 1) (distance_in h d)
+is_in_window rbuf h d = int_le (pos 0) (distance_in h d) && int_lt (distance_in h d) (pos (max (wide_of d.receiver rbuf) 1))
 
 -- the receiver after the packet: neither payload nor FIN of a packet with RST is read
 abbrev pub receiver_after : ℕ → Policy → Head → List ℕ → Direction → Receiver
@@ -61,11 +57,7 @@ receiver_after rbuf policy h payload d =
 
 -- the direction after the packet
 abbrev pub direction_after : ℕ → Policy → Head → List ℕ → Direction → Direction
-direction_after rbuf policy h payload d = record {
-  origin = Some (origin_for h d);
-  receiver = receiver_after rbuf policy h payload d;
-  mark = d.mark;
-}
+direction_after rbuf policy h payload d = record d { origin = Some (origin_for h d); receiver = receiver_after rbuf policy h payload d }
 
 -- how the packet's bytes were judged
 abbrev pub placed_in : ℕ → Head → List ℕ → Direction → Placed
@@ -82,18 +74,11 @@ abbrev pub is_finished : Direction → Bool
 is_finished d = is_fin_reached (next_in d) d.receiver.fin
 
 -- An acknowledgement number is judged in the direction of the end that it acknowledges, by its position there.
-abbrev pub is_natural : ℤ → Bool
-is_natural (pos z) = true
-is_natural (negsuc z) = false
-
-abbrev pub is_above : ℕ → ℤ → Bool
-is_above n (pos z) = nat_lt n z
-is_above n (negsuc z) = false
 
 -- it acknowledges a SYN that the capture has
 abbrev pub acks_syn_at : ℕ → ℕ → Option Origin → Bool
 acks_syn_at ack next None = false
-acks_syn_at ack next (Some origin) = origin.knows_syn && is_natural (position_of next origin.irs ack)
+acks_syn_at ack next (Some origin) = origin.knows_syn && int_le (pos 0) (position_of next origin.irs ack)
 
 abbrev pub acks_syn : ℕ → Direction → Bool
 acks_syn ack d = acks_syn_at ack (next_in d) d.origin
@@ -101,7 +86,7 @@ acks_syn ack d = acks_syn_at ack (next_in d) d.origin
 -- the position lies above that of the FIN, where one is noted
 abbrev pub is_past_fin : ℤ → Option ℕ → Bool
 is_past_fin q None = false
-is_past_fin q (Some fin) = is_above fin q
+is_past_fin q (Some fin) = int_lt (pos fin) q
 
 -- it acknowledges the noted FIN
 abbrev pub acks_fin_at : ℕ → ℕ → Option Origin → Option ℕ → Bool
@@ -111,11 +96,7 @@ acks_fin_at ack next (Some origin) fin = is_past_fin (position_of next origin.ir
 abbrev pub acks_fin : ℕ → Direction → Bool
 acks_fin ack d = acks_fin_at ack (next_in d) d.origin d.receiver.fin
 
--- the receiver with its offer of size positions from the acknowledged one on; it makes none before the positions have begun
-abbrev pub offered_from : ℕ → ℕ → Option Origin → Receiver → Receiver
-offered_from ack size None r = r
-offered_from ack size (Some origin) r = offered r (position_of (next_of r.cells) origin.irs ack) size
-
--- the direction after its receiver made that offer
+-- after its receiver offered size positions from the acknowledged one on; it makes no offer before the positions have begun
 unfoldable pub offered_in : ℕ → ℕ → Direction → Direction
-offered_in ack size d = record d { receiver = offered_from ack size d.origin d.receiver }
+offered_in ack size d =
+    record d { receiver = option_map_or (λ origin. offered d.receiver (position_of (next_in d) origin.irs ack) size) d.origin d.receiver }

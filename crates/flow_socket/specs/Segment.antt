@@ -3,7 +3,7 @@ use Rattle.std.specs.Prelude.{ℕ, ◌+◌, ◌≤◌, ◌^◌, ℤ, pos, ◌+�
 use Rattle.reassembly.specs.declared.answers.Policy.{Policy}
 use Rattle.reassembly.specs.declared.answers.Placed.{Placed}
 use Rattle.reassembly.specs.declared.answers.FinNote.{FinNote}
-use Rattle.reassembly.specs.declared.answers.FinNote.TheVariants.{Noted, Same, Refused}
+use Rattle.reassembly.specs.declared.answers.FinNote.TheVariants.{Refused}
 use Rattle.reassembly.specs.Receiver.{Receiver, next_of, wide_of}
 use Rattle.reassembly.specs.Segment.{accept, counts}
 use Rattle.reassembly.specs.Fin.{note_of, noted}
@@ -37,9 +37,8 @@ note_at rbuf policy distance payload r =
     note_of (with_payload rbuf policy distance payload r) (fin_position distance payload r) (fin_edge rbuf r)
 
 abbrev pub is_refusal : FinNote → Bool
-is_refusal Noted = false
-is_refusal Same = false
 is_refusal Refused = true
+is_refusal _ = false
 
 -- the segment has a FIN, and it was refused
 abbrev pub is_refused : ℕ → Policy → Bool → ℤ → List ℕ → Receiver → Bool

@@ -7,23 +7,11 @@ use Rattle.packet_views.specs.Frame.{field, ip_start}
 abbrev pub header_end : List ℕ → ℕ
 header_end frame = ip_start frame + 40
 
--- the bytes of the packet behind the fixed header, extension headers among them
-abbrev pub payload_length : List ℕ → ℕ
-payload_length frame = field (ip_start frame + 4) 2 frame
-
--- where the IPv6 packet ends; what the frame holds from there is padding
+-- where the IPv6 packet ends; what the frame holds from there is padding. The payload length counts the bytes behind the fixed
+-- header, extension headers among them
 abbrev pub ip6_end : List ℕ → ℕ
-ip6_end frame = header_end frame + payload_length frame
+ip6_end frame = header_end frame + field (ip_start frame + 4) 2 frame
 
 -- the kind of the header behind the fixed one
 abbrev pub first_kind : List ℕ → ℕ
 first_kind frame = slice_index frame (ip_start frame + 6)
-
-abbrev pub hop_limit : List ℕ → ℕ
-hop_limit frame = slice_index frame (ip_start frame + 7)
-
-abbrev pub source_address : List ℕ → ℕ
-source_address frame = field (ip_start frame + 8) 16 frame
-
-abbrev pub destination_address : List ℕ → ℕ
-destination_address frame = field (ip_start frame + 24) 16 frame

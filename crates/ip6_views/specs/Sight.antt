@@ -1,8 +1,8 @@
 -- What is seen of a captured frame: its TCP segment, over IPv4 or IPv6, or the class of what is none; and its key and lane.
-use Rattle.std.specs.Prelude.{ℕ, ◌+◌, if◌then◌else◌, Option, List}
+use Rattle.std.specs.Prelude.{ℕ, ◌+◌, if◌then◌else◌, Option, List, slice_index}
 use Rattle.packet_views.specs.declared.packet.Class.{Class}
 use Rattle.packet_views.specs.declared.packet.Head.{Head}
-use Rattle.packet_views.specs.Frame.{field, carries, tcp_start}
+use Rattle.packet_views.specs.Frame.{field, carries, ip_start, tcp_start}
 use Rattle.packet_views.specs.Tcp.{head_at, payload_at}
 use Rattle.packet_views.specs.Packet.{class_of, head_of, payload_of}
 use Rattle.packet_views.specs.Options.{scale_at}
@@ -11,7 +11,7 @@ use Rattle.flow_table.specs.declared.endpoint.Endpoint.TheVariants.{V6}
 use Rattle.flow_table.specs.Endpoint.{source_of, destination_of}
 use Rattle.flow_table.specs.Key.{EndpointPair, key_between}
 use Rattle.flow_table.specs.Lane.{lane_of_key}
-use Rattle.ip6_views.specs.Frame.{destination_address, hop_limit, ip6_end, source_address}
+use Rattle.ip6_views.specs.Frame.{ip6_end}
 use Rattle.ip6_views.specs.Chain.{Found, TcpAt, Only}
 use Rattle.ip6_views.specs.Packet.{found6_in}
 
@@ -41,13 +41,13 @@ abbrev pub sight4_with : Class → List ℕ → Sight
 sight4_with Class.Tcp frame = Tcp (segment_of frame)
 sight4_with class frame = Other class
 
--- the segment of a frame over IPv6 whose TCP header begins at a place: the addresses of 32 bits are 0, and the time to live is the
--- hop limit
+-- the segment of a frame over IPv6 whose TCP header begins at a place: the addresses of 32 bits are 0, the time to live is
+-- the hop limit in byte 7 of the fixed header, and the addresses stand in its bytes 8 to 23 and 24 to 39
 abbrev pub segment6_of : ℕ → List ℕ → Segment
 segment6_of tcp frame = record {
-  head = head_at tcp (ip6_end frame) 0 0 (hop_limit frame) frame;
-  sender = V6 (source_address frame) (field tcp 2 frame);
-  receiver = V6 (destination_address frame) (field (tcp + 2) 2 frame);
+  head = head_at tcp (ip6_end frame) 0 0 (slice_index frame (ip_start frame + 7)) frame;
+  sender = V6 (field (ip_start frame + 8) 16 frame) (field tcp 2 frame);
+  receiver = V6 (field (ip_start frame + 24) 16 frame) (field (tcp + 2) 2 frame);
   scale = scale_at tcp frame;
   payload = payload_at tcp (ip6_end frame) frame;
 }

@@ -51,39 +51,3 @@ module _ (order : Order) (n : ℕ) (front : List ℕ) (told : n ≡ 16 + capture
     where
       starts-length : (left : List ℕ) → StartsWith left front → length front ≤ length left
       starts-length left begins = let parts = starts_with_rest left front begins in omega (arith, ap length parts, length-append front (drop (length front) left))
-
--- ---- bytes that are passed over
-
-pub passed_over : (old new : Option (List ℕ)) (count : ℕ) → PassesOver old new count → IsPassed old new count
-passed_over None new count passed left told fits = absurd (cc)
-passed_over (Some bytes) None count passed left told fits = absurd passed
-passed_over (Some bytes) (Some rest) count passed left told fits =
-    let same : bytes ≡ left = cc in
-    ap Some (passed.1 ∙ ap (drop count) same)
-
--- a buffer that was filled holds all of them
-pub read_over : (old new : Option (List ℕ)) (n count : ℕ) (buf : List ℕ) → length buf ≡ count → Fills old new n buf → IsPassed old new count
-read_over None new n count buf sized fills left told fits = absurd (cc)
-read_over (Some bytes) None n count buf sized fills left told fits = absurd fills.consumed
-read_over (Some bytes) (Some rest) n count buf sized fills left told fits =
-    let same : bytes ≡ left = cc in
-    let front : length (take n buf) ≡ n = length-take-le n buf fills.within in
-    let size : length bytes ≡ n + length rest = ap length fills.consumed ∙ length-append (take n buf) rest ∙ ap (λ k. k + length rest) front in
-    let full : length buf ≤ n = filled n buf rest fills.short (λ short. let none = ap length (fills.short short) in omega (arith, size, none, sized, fits, ap length same, short)) in
-    let parts : bytes ≡ buf ++ rest = fills.consumed ∙ ap (λ l. l ++ rest) (take_all n buf full) in
-    ap Some (sym (ap (drop count) (sym same ∙ parts) ∙ ap (λ k. drop k (buf ++ rest)) (sym sized) ∙ drop-append_seam buf rest))
-  where
-    filled : (n : ℕ) (buf rest : List ℕ) → (n < length buf → rest ≡ []) → (n < length buf → ⊥) → length buf ≤ n
-    filled n buf rest short never = grind (arith, common_steps, never)
-
--- one that wasn't leaves some
-pub stopped_within : (old new : Option (List ℕ)) (count : ℕ) (buf : List ℕ) → length buf ≡ count → FillsPart old new buf → StopsWithin old new count
-stopped_within None new count buf sized part left told fits none = cc
-stopped_within (Some bytes) None count buf sized part left told fits none = part.consumed
-stopped_within (Some bytes) (Some rest) count buf sized part left told fits none =
-    let same : bytes ≡ left = cc in
-    let over : rest ≡ [] = cc in
-    let front : length (take part.count buf) ≡ part.count = length-take-le part.count buf (let w = part.within in omega (arith, w)) in
-    let size : length bytes ≡ part.count + length rest = ap length part.consumed ∙ length-append (take part.count buf) rest ∙ ap (λ k. k + length rest) front in
-    let w = part.within in
-    omega (arith, size, ap length over, sized, fits, ap length same, w)

@@ -18,30 +18,8 @@ header_of-whole header rest is =
     let long : nat_lt (length (header ++ rest)) 24 ≡ false = grind (arith, nat_tests, length-append header rest) in
     rw (long, front) refl
 
-header_of-short : (bytes : List ℕ) → length bytes < 24 → header_of bytes ≡ Err (ShortHeader (length bytes))
-header_of-short bytes short =
-    let test : nat_lt (length bytes) 24 ≡ true = grind (arith, nat_tests) in rw test refl
-
 whole : (n : ℕ) (before after header : List ℕ) → Fills (Some before) (Some after) n header → length header ≤ n → before ≡ header ++ after
 whole n before after header fills full = fills.consumed ∙ ap (λ l. l ++ after) (take_all n header full)
-
-pub gives-ShortHeader : (n : ℕ) (a b : Option (List ℕ)) (header : List ℕ) → Fills a b n header → length header ≡ 24 → n < 24
-    → OpenGives a b (Err (ShortHeader n))
-gives-ShortHeader n None b header fills is short = tt
-gives-ShortHeader n (Some before) None header fills is short = absurd fills.consumed
-gives-ShortHeader n (Some before) (Some after) header fills is short =
-    let front : length (take n header) ≡ n = length-take-le n header fills.within in
-    let all : length before ≡ n = ap length fills.consumed ∙ length-append (take n header) after ∙ omega (arith, front, ap length (fills.short (omega arith))) in
-    header_of-short before (omega arith) ∙ ap (λ k. Err (ShortHeader k)) all
-
--- the source failed before 24 bytes were read
-pub gives-ReadFault : (a b : Option (List ℕ)) (header : List ℕ) → FillsPart a b header → length header ≡ 24 → OpenGives a b (Err ReadFault)
-gives-ReadFault None b header part is = tt
-gives-ReadFault (Some before) None header part is = absurd part.consumed
-gives-ReadFault (Some before) (Some after) header part is = λ none.
-    let within = part.within in
-    let front : length (take part.count header) ≡ part.count = length-take-le part.count header (omega arith) in
-    omega (arith, front, is, ap length part.consumed, length-append (take part.count header) after, ap length none)
 
 -- a header of 24 bytes is refused for what stands in it
 abbrev Judges : OpenError → Type 0
@@ -55,9 +33,6 @@ judged_in false false order e is = cc
 judges : (found : Option Order) (header : List ℕ) (e : OpenError) → header_by found header ≡ Err e → Judges e
 judges None header e is = inl (cc)
 judges (Some order) header e is = judged_in (not (number_in order 2 (drop 4 header) == 2)) (not (number_in order 4 (drop 20 header) % 65536 == 1)) order e is
-
-pub judges-whole : (found : Option Order) (header : List ℕ) (n : ℕ) → header_by found header ≡ Err (ShortHeader n) → ⊥
-judges-whole found header n is = elim (judges found header (ShortHeader n) is) [ inl e ↦ cc | inr (inl e) ↦ cc | inr (inr e) ↦ cc ]
 
 judges-read : (found : Option Order) (header : List ℕ) → header_by found header ≡ Err ReadFault → ⊥
 judges-read found header is = elim (judges found header ReadFault is) [ inl e ↦ cc | inr (inl e) ↦ cc | inr (inr e) ↦ cc ]

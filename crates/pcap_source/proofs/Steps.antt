@@ -162,13 +162,6 @@ gives-Frame order count offset n m (Some before) (Some mid) (Some after) head bo
     ∙ ap (λ o. with_frame frame (frames_from order rest_of o (drop (record_length order before) before))) place
     ∙ ap (λ l. with_frame frame (frames_from order rest_of (offset + 16 + length body) l)) behind
 
--- the head and the body are what was consumed
-pub reads-Frame : (n m : ℕ) (a b d : Option (List ℕ)) (head body : List ℕ) → Fills a b n head → length head ≤ n → Fills b d m body → length body ≤ m
-    → Consumes a d (head ++ body)
-reads-Frame n m a b d head body fills full rest all =
-    subst (Consumes a d) (ap (λ l. l ++ take m body) (take_all n head full) ∙ ap (λ l. head ++ l) (take_all m body all))
-    (Consumes-trans a b d (take n head) (take m body) fills.consumed rest.consumed)
-
 -- the same where head and data were consumed at once
 pub gives-whole : (order : Order) (count offset : ℕ) (a d : Option (List ℕ)) (frame : Captured) → Consumes a d (frame.head ++ frame.bytes) → IsRecord order frame → count < 1048576
     → NextGives (reading order count offset) (reading order (count + 1) (offset + 16 + length frame.bytes)) a d frame (Ok Frame)

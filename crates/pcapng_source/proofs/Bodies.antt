@@ -45,15 +45,6 @@ words-at : (r : Reader) (n : ℕ) (left : List ℕ) → 0 < n → behind_words r
 words-at r zero left some = absurd (omega arith)
 words-at r (suc n) left some = ap (λ k. behind_options r k left) (let it : 4 * suc n ≡ 4 * (suc n - 1) + 4 = omega arith in it)
 
-pub leaves-option : (r : Reader) → r.stage ≡ Body → IsFitting r → r.owed ≡ 0 → r.skip ≡ 0 → 0 < r.options
-    → Goes r (record r { word = []; options = r.options - 1; stage = OptionHead })
-leaves-option r is fits owed skip some = record {
-  same = λ left. sym (rest-at r Body left is ∙ ap (prepended r.made) (body-at r left owed skip ∙ words-at r r.options left some));
-  fits = fits;
-  lighter = omega (arith, weight-at r Body is);
-  met = sym (ap met_at is);
-}
-
 pub leaves-body : (r : Reader) → r.stage ≡ Body → IsFitting r → r.owed ≡ 0 → r.skip ≡ 0 → r.options ≡ 0
     → Goes r (record r { word = []; stage = Trailer })
 leaves-body r is fits owed skip none = record {

@@ -29,12 +29,6 @@ weight-at r stage is = ap (λ s. weight_at s r) is
 pub goes-same : (r : Reader) → IsFitting r → Goes r r
 goes-same r fits = record { same = λ left. refl; fits = fits; lighter = omega arith; met = refl }
 
-pub goes-trans : (a b c : Reader) → Goes a b → Goes b c → Goes a c
-goes-trans a b c first second =
-    let one = first.lighter in
-    let two = second.lighter in
-    record { same = λ left. second.same left ∙ first.same left; fits = second.fits; lighter = omega (arith, one, two); met = second.met ∙ first.met }
-
 -- a block is refused
 pub refuses : (r : Reader) (stage : Stage) (fault : NgFault) → r.stage ≡ stage → met_at stage ≡ 0 → IsFitting r → ((left : List ℕ) → rest_at stage r left ≡ refused_with fault)
     → Judges r (record r { stage = Refused fault 0 })
@@ -78,25 +72,6 @@ waits r it short = record {
     ap (λ s. rest_at s r []) it.stage ∙ head-waits r.section r.place.allowed r.place.offset r.head it.allowed it.accepted short,
   );
 }
-
--- nothing comes any more behind n bytes of a body
-behind-nil : (section : SectionState) (r : Reader) (n : ℕ) → behind section r n [] ≡ nothing
-behind-nil section r n = closed-short r.section.order r.block.total r.block.offset n [] _ (omega arith)
-
-pub words-nil : (r : Reader) (n : ℕ) → behind_words r n [] ≡ nothing
-words-nil r zero = behind-nil r.section r 0
-words-nil r (suc n) = behind-nil _ r (4 * suc n)
-
-pub body-open : (r : Reader) → r.stage ≡ Body → IsOpen r
-body-open r is =
-    ap (λ s. rest_at s r []) is
-    ∙ ap (λ l. prepended l (behind_words r r.options (drop (r.owed + r.skip) []))) (take-nil r.owed)
-    ∙ ap (behind_words r r.options) (drop-nil (r.owed + r.skip)) ∙ words-nil r r.options
-
--- in a stage that holds a word
-pub word-open : (section : SectionState) (r : Reader) (n : ℕ) (word : List ℕ) → length word < n + 4 → behind section r n (word ++ []) ≡ nothing
-word-open section r n word short =
-    closed-short r.section.order r.block.total r.block.offset n (word ++ []) _ (omega (arith, length-append word []))
 
 -- ---- bytes that come next, in a body
 

@@ -53,13 +53,10 @@ head_length SimplePacket = 12
 head_length EnhancedPacket = 28
 head_length OtherBlock = 8
 
--- how many bytes a block has at least
+-- how many bytes a block has at least: those and the total length again
 abbrev pub least_total : Kind → ℕ
 least_total SectionHeader = 28
-least_total InterfaceBlock = 20
-least_total SimplePacket = 16
-least_total EnhancedPacket = 32
-least_total OtherBlock = 12
+least_total kind = head_length kind + 4
 
 -- how many bytes the block at the front has
 abbrev pub total_of : Order → List ℕ → ℕ

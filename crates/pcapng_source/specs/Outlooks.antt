@@ -18,10 +18,6 @@ outlook r left = option_map (rest_of r) left
 abbrev pub bytes_left : Option Given → Option (List ℕ)
 bytes_left given = option_map (λ g. g.bytes) given
 
--- the refusal behind them
-abbrev pub refusal_left : Option Given → Option (Option NgFault)
-refusal_left given = option_map (λ g. g.refusal) given
-
 -- these bytes were given
 abbrev pub Gives : Option Given → Option Given → List ℕ → Type 0
 Gives None new front = ⊤

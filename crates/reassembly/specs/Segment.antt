@@ -43,10 +43,8 @@ held_after next limit policy q bytes p c = if has_byte q bytes p then cell_after
 
 -- the receiver after a segment whose bytes stand from position q on
 abbrev pub accept_at : Receiver → ℕ → List ℕ → Policy → ℕ → Receiver
-accept_at r q bytes policy rbuf = record {
+accept_at r q bytes policy rbuf = record r {
   cells = map (λ p. held_after (next_of r.cells) (limit_at r rbuf) policy q bytes p (held r.cells p)) (range_with_len 0 (max (length r.cells) (q + length bytes)));
-  fin = r.fin;
-  offer = r.offer;
 }
 
 -- how many numbers below n pass
@@ -79,12 +77,7 @@ accept r q bytes policy rbuf = accept_at r (from_zero q) (drop (below_zero q) by
 
 -- how each of its bytes is judged
 unfoldable pub counts : Receiver → ℤ → List ℕ → ℕ → Placed
-counts r q bytes rbuf = let c = counts_at r (from_zero q) (drop (below_zero q) bytes) rbuf in record {
-  new = c.new;
-  old = min (below_zero q) (length bytes) + c.old;
-  differ = c.differ;
-  over = c.over;
-}
+counts r q bytes rbuf = let c = counts_at r (from_zero q) (drop (below_zero q) bytes) rbuf in record c { old = min (below_zero q) (length bytes) + c.old }
 
 -- the receiver after a segment that begins d above next
 abbrev pub accept_above : ℤ → List ℕ → Policy → ℕ → Receiver → Receiver

@@ -28,9 +28,6 @@ use Rattle.words.proofs.Reading.{Reads, reading}
 abbrev whole_app : App
 whole_app = record { top = the_shape names; subs = [] }
 
-built_is : built the_app ≡ whole_app
-built_is = refl
-
 pub simple : is_simple the_app ≡ true
 simple = refl
 

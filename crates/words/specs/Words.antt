@@ -1,10 +1,11 @@
 -- The words after the program's name: which of them are accepted, and what they choose.
 use Rattle.std.specs.Prelude.{◌≡◌, ℕ, Bool, true, false, not, ◌&&◌, ◌==◌, if◌then◌else◌, nat_le, List, [], ◌∷◌, ◌++◌, map, length, find, codes, Option, Some, None, option_map, option_and_then, unwrap_or, Result, IfErr, String, string_bytes}
 use Rattle.std.specs.List.{list_all, list_any, before_first, after_first}
+use Rattle.std.specs.Option.{option_map_or}
 use Rattle.std.specs.Borrow.{Bor}
 use Rattle.std.specs.Str.{bytes_eq}
 use Rattle.number_text.specs.Numbers.{number_between}
-use Rattle.applications.specs.Apps.{kind_named}
+use Rattle.applications.specs.Apps.{apps, named_in}
 use Rattle.words.specs.Offers.{emits}
 use Rattle.applications.specs.declared.apps.AppKind.{AppKind}
 use Rattle.applications.specs.declared.apps.AppKind.TheVariants.{Log}
@@ -85,33 +86,26 @@ are_options items = list_all (λ i. has_name names i.name) items && (differ [] (
 abbrev pub value_of : List Item → List ℕ → Option (List ℕ)
 value_of items name = option_map (λ i. i.value) (find (λ i. bytes_eq i.name name) items)
 
-abbrev pub named_in : {X : Type 0} → List (List ℕ × X) → List ℕ → Option X
-named_in table text = option_map (λ row. row.1) (find (λ row. bytes_eq text row.0) table)
-
-abbrev pub read_or : {X : Type 0} → X → (List ℕ → Option X) → Option (List ℕ) → Option X
-read_or default read None = Some default
-read_or default read (Some text) = read text
-
 abbrev pub app_of : Option (List ℕ) → Option AppKind
-app_of = read_or Log kind_named
+app_of text = option_map_or (named_in apps) text (Some Log)
 
 -- 1 to 16
 abbrev pub workers_of : Option (List ℕ) → Option ℕ
-workers_of = read_or 1 (number_between 1 16)
+workers_of text = option_map_or (number_between 1 16) text (Some 1)
 
 -- a script's name has at most 255 bytes
 abbrev pub script_of : Option (List ℕ) → Option (Option (List ℕ))
-script_of = read_or None (λ text. if nat_le (length text) 255 then Some (Some text) else None)
+script_of text = option_map_or (λ name. if nat_le (length name) 255 then Some (Some name) else None) text (Some None)
 
 -- `--make` writes a summary, and excludes `--emit`
 abbrev pub emit_of : Option (List ℕ) → Option (List ℕ) → Option Emit
-emit_of emit None = read_or Report (named_in emits) emit
+emit_of emit None = option_map_or (named_in emits) emit (Some Report)
 emit_of None (Some made) = Some Summary
 emit_of (Some emit) (Some made) = None
 
 -- 1 to 100,000 connections of a made capture
 abbrev pub make_of : Option (List ℕ) → Option (Option ℕ)
-make_of = read_or None (λ text. option_map (λ n. Some n) (number_between 1 100000 text))
+make_of text = option_map_or (λ number. option_map Some (number_between 1 100000 number)) text (Some None)
 
 -- the settings, where each value makes a choice
 abbrev pub settings_of : (List ℕ → Option (List ℕ)) → Option Settings
