@@ -25,7 +25,8 @@ use Rattle.run_outcome.specs.Allowed.{MayHave}
 use Rattle.run_outcome.specs.Totals.{totals_of}
 use Rattle.capture_replay.specs.declared.output.Output.{Output}
 use Rattle.capture_replay.specs.declared.refusal.ReplayError.TheVariants.{Heavy, Capture, TooMany}
-use Rattle.capture_replay.specs.Records.{packets_of, packets_with, records_of, verdicts_of, versions_of, frames_in}
+use Rattle.capture_replay.specs.Records.{packets_of, packets_with, records_of, versions_of, frames_in}
+use Rattle.capture_replay.specs.Passed.{verdicts_of}
 use Rattle.run_outcome.specs.Forwarded.{left_by_all}
 use Rattle.capture_replay.specs.Outcome.{Outcome, refused, is_forward, closing, followed, outcome_by, outcome_over}
 use Rattle.capture_replay.specs.declared.refusal.ReplayError.{ReplayError}

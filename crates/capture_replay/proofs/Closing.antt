@@ -31,10 +31,10 @@ use Rattle.capture_replay.specs.declared.output.Output.TheVariants.{Report, Forw
 use Rattle.capture_replay.specs.declared.refusal.ReplayError.{ReplayError}
 use Rattle.capture_replay.specs.declared.refusal.ReplayError.TheVariants as Replay
 use Rattle.run_outcome.specs.Totals.{totals_of}
-use Rattle.capture_replay.specs.Records.{control_at, packets_of, records_of, records_so_far, versions_of}
+use Rattle.capture_replay.specs.Records.{control_at, packets_of, records_of, versions_of}
 use Rattle.capture_replay.specs.Outcome.{Outcome, is_forward, is_heavy, streamed, closing, ended, weighed, refused}
 use Rattle.capture_replay.specs.Summary.{summary_text, made_line}
-use Rattle.capture_replay.specs.Reading.{Follows, IsRead}
+use Rattle.capture_replay.specs.Reading.{Follows, IsRead, records_so_far}
 use Rattle.capture_replay.specs.Refusal.{lane_refusal}
 use Rattle.capture_replay.specs.Runs.{StopsAs, RunsAs}
 use Rattle.capture_replay.proofs.Following.{ended_are}

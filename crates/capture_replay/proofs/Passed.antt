@@ -18,9 +18,9 @@ use Rattle.lane_core.specs.Verdicts.{dropped_of}
 use Rattle.lane_core.specs.Once.{DropsAreVerdicts, drops_in}
 use Rattle.run_outcome.specs.Greatest.{greatest}
 use Rattle.capture_replay.specs.declared.output.Output.TheVariants.{Forward}
-use Rattle.capture_replay.specs.Records.{control_at, records_of, verdicts_of}
+use Rattle.capture_replay.specs.Records.{control_at, records_of}
 use Rattle.capture_replay.specs.Outcome.{streamed}
-use Rattle.capture_replay.specs.Passed.{passes, passed, drop_lines}
+use Rattle.capture_replay.specs.Passed.{passes, passed, drop_lines, verdicts_of}
 
 -- ---- drop lines
 

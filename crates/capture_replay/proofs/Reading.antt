@@ -18,10 +18,10 @@ use Rattle.lane_core.specs.Laws.{LastPacketIsAdded, WeightNeverFalls}
 use Rattle.lane_core.specs.Shown.{weight, total}
 use Rattle.capture_replay.specs.declared.output.Output.{Output}
 use Rattle.run_outcome.specs.Greatest.{greatest, greatest_from}
-use Rattle.capture_replay.specs.Records.{control_at, packets_of, records_of, records_so_far}
+use Rattle.capture_replay.specs.Records.{control_at, packets_of, records_of}
 use Rattle.run_outcome.specs.Forwarded.{bytes_under as left_by}
 use Rattle.capture_replay.specs.Outcome.{is_forward, is_heavy}
-use Rattle.capture_replay.specs.Reading.{Follows, IsOver, IsRead, IsSeen, gained, is_heavy_so_far, packet_at, packet_of}
+use Rattle.capture_replay.specs.Reading.{Follows, IsOver, IsRead, IsSeen, gained, is_heavy_so_far, packet_at, packet_of, records_so_far}
 
 -- ---- one frame more
 
@@ -97,13 +97,6 @@ module _ (app : Meaning) (script : List Stamped) where
       → (not (is_forward output) ≡ true → 134217728 < weight (records_of app script (packets_of script) frames) → ⊥) → is_heavy app script (packets_of script) output frames ≡ false
   under_at_end output frames under = light-at-end (not (is_forward output)) output frames refl under
 
-  -- what is too heavy weighs so much
-  pub weighs_at_end : (output : Output) (frames : List Captured) → is_heavy app script (packets_of script) output frames ≡ true
-      → 134217728 < weight (records_of app script (packets_of script) frames)
-  weighs_at_end output frames heavy =
-      is_over (weight (records_of app script (packets_of script) frames))
-      (and_parts (not (is_forward output)) (nat_lt 134217728 (weight (records_of app script (packets_of script) frames))) heavy).1
-
   -- what is too heavy before the end is so at the end
   pub heavy_at_end : WeightNeverFalls → (output : Output) (frames : List Captured) → is_heavy_so_far app script output frames ≡ true → is_heavy app script (packets_of script) output frames ≡ true
   heavy_at_end falls output frames heavy =
@@ -178,19 +171,6 @@ module _ (app : Meaning) (script : List Stamped) (output : Output) (frames : Lis
     light = λ good. absurd (bad good);
     heavy = λ any. heavy_by app script output frames frame number count kept over;
   }
-
--- ---- what is written of a frame
-
-module _ (app : Meaning) (script : List Stamped) (output : Output) (frames : List Captured) (frame : Captured) where
-  pub gained_none : is_forward output ≡ false → gained app script output frames frame ≡ []
-  gained_none is = ap (λ b. if b then left_by (verdict_on app (control_at app script) (packet_of script (length frames) frame) (records_so_far app script (packets_of script) frames)) frame else []) is
-
-  pub gained_by : (number : ℕ) (verdict : Verdict) → length frames ≡ number
-      → verdict ≡ verdict_on app (control_at app script) (packet_of script number frame) (records app (control_at app script) (packets_of script frames))
-      → (if is_forward output then left_by verdict frame else []) ≡ gained app script output frames frame
-  gained_by number verdict count is =
-      ap (λ v. if is_forward output then left_by v frame else []) is
-      ∙ ap (λ n. if is_forward output then left_by (verdict_on app (control_at app script) (packet_of script n frame) (records_so_far app script (packets_of script) frames)) frame else []) (sym count)
 
 -- ---- no frame yet
 

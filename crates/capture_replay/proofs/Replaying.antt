@@ -22,14 +22,14 @@ use Rattle.lane_core.specs.Verdicts.{verdicts_from}
 use Rattle.capture_replay.specs.declared.output.Output.{Output}
 use Rattle.capture_replay.specs.declared.refusal.ReplayError.{ReplayError}
 use Rattle.capture_replay.specs.declared.refusal.ReplayError.TheVariants as Replay
-use Rattle.capture_replay.specs.Records.{control_at, packets_of, records_so_far}
+use Rattle.capture_replay.specs.Records.{control_at, packets_of}
 use Rattle.run_outcome.specs.Forwarded.{bytes_under as left_by}
 use Rattle.run_outcome.specs.Forwarded.{left_by_all}
 use Rattle.capture_replay.specs.Forward.{forwarded}
 use Rattle.capture_replay.specs.Refusal.{record_refusal, header_refusal}
 use Rattle.capture_replay.specs.Outcome.{is_forward, is_heavy, streamed, followed, weighed, refused, outcome_by, outcome_over}
 use Rattle.capture_replay.specs.Outcome as Outcomes
-use Rattle.capture_replay.specs.Reading.{Replaying, behind, gained, packet_of}
+use Rattle.capture_replay.specs.Reading.{Replaying, behind, gained, packet_of, records_so_far}
 use Rattle.capture_replay.proofs.Reading.{heavy_is_kept}
 use Rattle.capture_replay.specs.Runs.{StopsAs}
 

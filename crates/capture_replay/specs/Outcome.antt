@@ -35,9 +35,8 @@ abbrev pub output_of : Settings → Output
 output_of s = output_by s.make s.emit
 
 abbrev pub is_forward : Output → Bool
-is_forward Report = false
 is_forward Forward = true
-is_forward (Summary n) = false
+is_forward _ = false
 
 -- how many connections the capture has that is made for a run, where one is: its summary is written
 abbrev pub made_for : Output → Option ℕ
@@ -79,17 +78,15 @@ module _ (app : Meaning) (script : List Stamped) (given : List Captured → List
     ends = Ok (versions_of (records_of app script given frames));
   }
 
-  abbrev pub weighed : Output → List ℕ → List Captured → ℕ → Outcome ReplayError
-  weighed output header frames rest = if is_heavy output frames then refused Heavy else ended output header frames rest
-
-  abbrev pub cut_off : Output → List ℕ → List Captured → ReplayError → Outcome ReplayError
-  cut_off output header frames e = record { text = streamed output header frames; ends = Err e }
-
   -- whole records, to the end of the capture or to where it is refused
   abbrev pub followed : Output → List ℕ → List Captured → Ending → Outcome ReplayError
-  followed output header frames (tail n) = weighed output header frames n
-  followed output header frames (too_long offset) = cut_off output header frames (Capture Fault.TooLong offset)
-  followed output header frames (too_many offset) = cut_off output header frames (TooMany offset)
+  followed output header frames (tail n) = if is_heavy output frames then refused Heavy else ended output header frames n
+  followed output header frames (too_long offset) = record { text = streamed output header frames; ends = Err (Capture Fault.TooLong offset) }
+  followed output header frames (too_many offset) = record { text = streamed output header frames; ends = Err (TooMany offset) }
+
+  -- whole records, to the end of the capture
+  abbrev pub weighed : Output → List ℕ → List Captured → ℕ → Outcome ReplayError
+  weighed output header frames rest = followed output header frames (tail rest)
 
   abbrev pub outcome_by : Output → List ℕ → Result Frames OpenError → Outcome ReplayError
   outcome_by output header (Ok f) = followed output header f.frames f.ending

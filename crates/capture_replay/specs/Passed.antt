@@ -12,10 +12,11 @@ use Rattle.report_text.specs.declared.record.Record.{Record}
 use Rattle.control_script.specs.declared.stamped.Stamped.{Stamped}
 use Rattle.lane_core.specs.Records.{VersionedPacket}
 use Rattle.lane_core.specs.Shown.{record_of}
-use Rattle.lane_core.specs.Verdicts.{dropped_of}
+use Rattle.lane_core.specs.Sight.{Arrival}
+use Rattle.lane_core.specs.Verdicts.{dropped_of, verdicts_from}
 use Rattle.lane_core.specs.Once.{packets_after, joined}
 use Rattle.capture_replay.specs.declared.output.Output.TheVariants.{Forward}
-use Rattle.capture_replay.specs.Records.{control_at, records_of, verdicts_of}
+use Rattle.capture_replay.specs.Records.{control_at, records_of}
 use Rattle.capture_replay.specs.Outcome.{streamed}
 
 abbrev pub passes : Verdict → Bool
@@ -26,6 +27,10 @@ passes (Drop reason) = false
 unfoldable pub drop_lines : List Record → List (ℕ × Reason)
 drop_lines [] = []
 drop_lines (record_ ∷ others) = record_.drops ++ drop_lines others
+
+-- the packets of a run in order, each with what becomes of it
+abbrev pub verdicts_of : Meaning → List Stamped → (List Captured → List VersionedPacket) → List Captured → List (Arrival × Verdict)
+verdicts_of app script given frames = verdicts_from app (control_at app script) [] (given frames)
 
 -- the captured packets that pass
 abbrev pub passed : Meaning → List Stamped → (List Captured → List VersionedPacket) → List Captured → List Captured

@@ -14,7 +14,7 @@ use Rattle.control_script.specs.Order.{commands_of}
 use Rattle.control_script.specs.Versions.{ceil}
 use Rattle.lane_core.specs.Sight.{Arrival, Moment, arrival_of, arrivals}
 use Rattle.lane_core.specs.declared.errors.LaneError.{LaneError}
-use Rattle.lane_core.specs.Records.{VersionedPacket, records, verdict_on}
+use Rattle.lane_core.specs.Records.{VersionedPacket, RecordSoFar, records, verdict_on}
 use Rattle.lane_core.specs.Run.{LaneEvent, versioned_from, commands_of as given_in}
 use Rattle.lane_core.specs.Shown.{weight}
 use Rattle.lane_core.specs.Lane.{IsAfter}
@@ -25,12 +25,16 @@ use Rattle.capture_replay.specs.declared.output.Output.TheVariants.{Report}
 use Rattle.capture_replay.specs.declared.progress.Progress.{Progress}
 use Rattle.capture_replay.specs.declared.refusal.ReplayError.{ReplayError}
 use Rattle.capture_replay.specs.declared.refusal.ReplayError.TheVariants.{Heavy, ReadFault, WriteFault, NoMemory}
-use Rattle.capture_replay.specs.Records.{control_at, packets_of, records_so_far}
+use Rattle.capture_replay.specs.Records.{control_at, packets_of}
 use Rattle.run_outcome.specs.Forwarded.{bytes_under as left_by}
 use Rattle.run_outcome.specs.Greatest.{greatest}
 use Rattle.capture_replay.specs.Outcome.{is_forward, streamed}
 use Rattle.capture_replay.specs.Runs.{AreUnrefused, IsIdle, MayRun, ReadsFile, RunsAlone}
 use Rattle.capture_replay.specs.Typed.{ReportIsTyped}
+
+-- the records while the capture goes on, where `given` gives packets their versions
+abbrev pub records_so_far : Meaning → List Stamped → (List Captured → List VersionedPacket) → List Captured → List RecordSoFar
+records_so_far app script given frames = records app (control_at app script) (given frames)
 
 -- the packet of a number, under the commands up to its ceiling
 abbrev pub packet_at : List Stamped → ℕ → Arrival → VersionedPacket

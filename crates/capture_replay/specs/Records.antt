@@ -1,7 +1,6 @@
--- The records of a run, and what becomes of its packets.
+-- The records of a run.
 use Rattle.std.specs.Prelude.{ℕ, List, [], map, Result, Ok, Err}
 use Rattle.app_api.specs.App.{Meaning}
-use Rattle.app_api.specs.declared.reaction.Verdict.{Verdict}
 use Rattle.pcap_source.specs.Captured.{Captured}
 use Rattle.pcap_source.specs.Capture.{Frames}
 use Rattle.pcap_source.specs.declared.errors.OpenError.{OpenError}
@@ -9,10 +8,9 @@ use Rattle.forest_versions.specs.State.{ControlState, master}
 use Rattle.control_script.specs.declared.stamped.Stamped.{Stamped}
 use Rattle.control_script.specs.Order.{commands_of}
 use Rattle.control_script.specs.Versions.{ceil}
-use Rattle.lane_core.specs.Sight.{Arrival, arrivals}
+use Rattle.lane_core.specs.Sight.{arrivals}
 use Rattle.lane_core.specs.Records.{VersionedPacket, RecordSoFar, records, versioned, ended_at}
 use Rattle.run_outcome.specs.Greatest.{greatest}
-use Rattle.lane_core.specs.Verdicts.{verdicts_from}
 pub use Rattle.lane_core.specs.Versions.{versions_in as versions_of}
 use Rattle.run_outcome.specs.Whole.{packets_under}
 
@@ -33,18 +31,10 @@ packets_with app script vs frames = packets_under app (commands_of script) vs (a
 -- ---- a run, where `given` gives packets their versions
 
 module _ (app : Meaning) (script : List Stamped) (given : List Captured → List VersionedPacket) where
-  -- the records while the capture goes on
-  abbrev pub records_so_far : List Captured → List RecordSoFar
-  records_so_far frames = records app (control_at app script) (given frames)
-
   -- The records of a capture: at its end each open connection has ended that was silent for too long by the greatest moment of all
   -- packets.
   abbrev pub records_of : List Captured → List RecordSoFar
-  records_of frames = map (ended_at app (control_at app script) (greatest (arrivals 0 frames))) (records_so_far frames)
-
-  -- its packets in order, each with what becomes of it
-  abbrev pub verdicts_of : List Captured → List (Arrival × Verdict)
-  verdicts_of frames = verdicts_from app (control_at app script) [] (given frames)
+  records_of frames = map (ended_at app (control_at app script) (greatest (arrivals 0 frames))) (records app (control_at app script) (given frames))
 
 -- the frames of a capture; none where its header is refused
 abbrev pub frames_in : Result Frames OpenError → List Captured

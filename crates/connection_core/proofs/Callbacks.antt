@@ -28,7 +28,8 @@ use Rattle.forest_versions.specs.State.{ControlState}
 use Rattle.connection_core.specs.declared.ledger.Notes.{Notes}
 use Rattle.connection_core.specs.declared.ledger.Counts.{Counts}
 use Rattle.connection_core.specs.declared.ledger.Ledger.{Ledger}
-use Rattle.connection_core.specs.PacketUnderWay.{PacketUnderWay, seen_by, after_seen, bytes_seen, call_of, entry_of, reaction_of, first_reason, called, called_all, called_at}
+use Rattle.std.specs.Option.{option_or}
+use Rattle.connection_core.specs.PacketUnderWay.{PacketUnderWay, seen_by, after_seen, bytes_seen, call_of, entry_of, reaction_of, called, called_all, called_at}
 use Rattle.connection_core.specs.History.{weight_of}
 use Rattle.connection_core.specs.Standing.{IsUnder, Steps}
 use Rattle.connection_core.specs.Numbers.{called_by, called_numbers}
@@ -55,7 +56,7 @@ pub called_under : (app : Meaning) (s : ControlState) (number : ℕ) (from : Sid
     → reaction ≡ (reaction_of app s.rules r (record { reg = r.number; hook = raise.hook; event = r.event; facts = raise.facts; got = got }) notes.tally).1
     → notes_after.entries ≡ (if keep then notes.entries ++ entry_of number raise r seen ∷ [] else notes.entries)
     → ledger_after.changes.items ≡ ledger.changes.items ++ reaction.changes
-    → ledger_after.drop ≡ first_reason ledger.drop reaction.drop
+    → ledger_after.drop ≡ option_or ledger.drop reaction.drop
     → ledger_after.counts.callbacks ≡ ledger.counts.callbacks + 1
     → ledger_after.counts.weight ≡ ledger.counts.weight + (32 + got)
     → IsUnder keep others list socket_after notes_after ledger_after (called app s number from raise c r)
@@ -79,7 +80,7 @@ called_under app s number from raise r keep others list socket socket_after note
         weight = let one : weight_of (c.entries ++ entry ∷ []) ≡ weight_of c.entries + weight_of (entry ∷ []) = weight-append c.entries (entry ∷ []) in omega (arith, weight, u.noted.weight, bytes);
       };
       asked = changes ∙ ap (λ l. l ++ reaction.changes) u.asked ∙ ap (λ (w : Reaction). c.asked ++ w.changes) reaction_is;
-      drop = drop ∙ ap (λ d. first_reason d reaction.drop) u.drop ∙ ap (λ (w : Reaction). first_reason c.drop w.drop) reaction_is;
+      drop = drop ∙ ap (λ d. option_or d reaction.drop) u.drop ∙ ap (λ (w : Reaction). option_or c.drop w.drop) reaction_is;
     }
 
 -- ---- a walk under way

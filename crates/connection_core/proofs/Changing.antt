@@ -118,15 +118,6 @@ pub edited_known : (at : ℕ → Option Reg) (defs : List EventDef) (r : Reg) (l
     → All (λ (x : Reg). at x.number ≡ Some x) list → All (λ (x : Reg). at x.number ≡ Some x) (edited defs list r on)
 edited_known at defs r list on here all = edited_all (λ (x : Reg). at x.number ≡ Some x) defs r list on here all
 
--- a look-up finds the number that it looks for
-number_by : (n : ℕ) (x r : Reg) (rest : Option Reg) (b : Bool) → (x.number == n) ≡ b → cond b (Some x) rest ≡ Some r → (rest ≡ Some r → r.number ≡ n) → r.number ≡ n
-number_by n x r rest true here is there = let same : x ≡ r = cc in let num : x.number ≡ n = grind (arith, nat_tests) in ap (λ (y : Reg). y.number) (sym same) ∙ num
-number_by n x r rest false here is there = there is
-
-pub number_found : (n : ℕ) (regs : List Reg) (r : Reg) → reg_of regs n ≡ Some r → r.number ≡ n
-number_found n [] r is = cc
-number_found n (x ∷ regs) r is = number_by n x r (reg_of regs n) (x.number == n) refl is (number_found n regs r)
-
 -- ---- what a change makes of a packet under way
 
 pub within-same : (i : Option ℕ) (a : ℕ) → InternsWithin i i a a

@@ -54,16 +54,6 @@ done-none : (app : Meaning) (s : ControlState) (number : ℕ) (from : Side) (rai
 unfolding raise_done
 done-none app s number from raise c silent none = ap (settled s) (called-none app s number from raise c silent) ∙ settled-none s c none
 
-pub made_silent : (app : Meaning) (s : ControlState) (keep : Bool) (list : List Reg) (i : Option ℕ) (number : ℕ) (from : Side) (raise : Raise) (socket : SocketView) (notes : Notes) (ledger : Ledger)
-    → CallsNothing s list raise → ledger.changes.items ≡ []
-    → Makes keep list socket notes ledger i list socket notes ledger i (raise_done app s number from raise)
-made_silent app s keep list i number from raise socket notes ledger silent none = record {
-  stands = λ others c u.
-      let here : CallsNothing s c.active raise = subst (λ l. CallsNothing s l raise) (sym u.active) silent in
-      subst (λ (d : PacketUnderWay). Reached keep others list socket notes ledger i i c.altered d) (sym (done-none app s number from raise c here (sym u.asked ∙ none)))
-      (record { under = u; interned = within-same i c.altered });
-}
-
 -- ---- a phase
 
 pub phase-none : (app : Meaning) (s : ControlState) (number : ℕ) (from : Side) (raises : List Raise) (c : PacketUnderWay) → CallNothing s c.active raises → c.asked ≡ []

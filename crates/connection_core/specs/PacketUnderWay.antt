@@ -1,6 +1,7 @@
 -- A packet's callbacks, one after the other. What they have come to is a packet under way: each callback is one step of it, a raise calls all
 -- registrations that fire and then makes the changes that were asked, and a phase makes its raises in order.
 use Rattle.std.specs.Prelude.{ℕ, ◌+◌, Bool, true, false, not, nat_lt, Option, Some, None, is_some, List, [], ◌∷◌, ◌++◌, length, if◌then◌else◌}
+use Rattle.std.specs.Option.{option_or}
 use Rattle.tcp_emulation.specs.declared.segment.Side.{Side}
 use Rattle.flow_socket.specs.Emulation.{Emulation}
 use Rattle.flow_socket.specs.Peek.{peeked, bytes_peeked, after_peek, pieces_at}
@@ -45,9 +46,8 @@ seen_by from (At place n) e = SawAt place (pieces_at from place n e)
 
 -- only a peek at the next bytes moves a mark, that of this stream
 abbrev pub after_seen : Side → PeekSpec → Emulation → Emulation
-after_seen from Nothing e = e
 after_seen from (Next n) e = after_peek from n e
-after_seen from (At place n) e = e
+after_seen from _ e = e
 
 abbrev pub bytes_in : List (ℕ × List ℕ) → ℕ
 bytes_in [] = 0
@@ -77,29 +77,17 @@ asked_by r = record { drop = (if r.action.drop then Some (ByReg r.number) else N
 abbrev pub reaction_of : Meaning → List Rule → Reg → Call → Tally → Tally × Reaction
 reaction_of app rules r call tally = if nat_lt r.number 16 then app.react tally call rules else (tally, asked_by r)
 
--- the first reason stays
-abbrev pub first_reason : Option Reason → Option Reason → Option Reason
-first_reason None asked = asked
-first_reason (Some reason) asked = Some reason
-
-abbrev pub reacted : Emulation → Entry → Tally × Reaction → PacketUnderWay → PacketUnderWay
-reacted emulation entry answer c = record c {
-  emulation = emulation;
-  tally = answer.0;
-  entries = c.entries ++ entry ∷ [];
-  asked = c.asked ++ answer.1.changes;
-  drop = first_reason c.drop answer.1.drop;
-}
-
--- one callback of the packet with this number: it peeks, leaves an entry, and reacts
+-- one callback of the packet with this number: it peeks, leaves an entry, and reacts; the first reason for a drop stays
 unfoldable pub called : Meaning → ControlState → ℕ → Side → Raise → PacketUnderWay → Reg → PacketUnderWay
 called app control number from raise c r =
     let seen = seen_by from r.peek c.emulation in
-    reacted
-    (after_seen from r.peek c.emulation)
-    (entry_of number raise r seen)
-    (reaction_of app control.rules r (call_of raise r seen) c.tally)
-    c
+    let answer = reaction_of app control.rules r (call_of raise r seen) c.tally in record c {
+      emulation = after_seen from r.peek c.emulation;
+      tally = answer.0;
+      entries = c.entries ++ entry_of number raise r seen ∷ [];
+      asked = c.asked ++ answer.1.changes;
+      drop = option_or c.drop answer.1.drop;
+    }
 
 -- ---- the callbacks of a raise
 

@@ -1,7 +1,7 @@
 //! What is noted of callbacks: in their record, and for the packet under way.
 
 ghost use Rattle.std.specs.Prelude.{◌≡◌, ◌+◌, ◌<◌, ◌≤◌, ◌^◌, ◌++◌, [], None, IsTrue, OnOk};
-ghost use Rattle.connection_core.specs.PacketUnderWay.{first_reason};
+ghost use Rattle.std.specs.Option.{option_or};
 ghost use Rattle.connection_core.specs.Standing.{kept_with, IsBegun, HasSame};
 
 use app_api::{Change1, Entry, Reaction, Reason, Tally};
@@ -124,7 +124,7 @@ impl Ledger {
     #[inline(always)]
     pub(crate) fn ask(&mut self, reaction: &Reaction) -> Result<(), AllocError>
         ensures changes { OnOk result (self.new.changes.items ≡ self.old.changes.items ++ reaction.now.changes) }
-        ensures drop { self.new.drop ≡ first_reason self.old.drop reaction.now.drop }
+        ensures drop { self.new.drop ≡ option_or self.old.drop reaction.now.drop }
         ensures counts { self.new.counts ≡ self.old.counts }
     {
         if reaction.drop.is_some() && self.drop.is_none() {

@@ -138,21 +138,6 @@ module _ {L : Type 0} (workers : List (Worker L)) (all_answers : List LaneAnswer
     pub done : (j : ℕ) (r : LaneAnswers) → j < k → Drains (sent_from workers j) (get_or all_answers j r) (get_or left j r)
     pub offers : OfferAll all_answers left w v
 
-  pub none_drained : IsDraining 0 workers all_answers w
-  none_drained = record {
-    lanes = refl;
-    sents = refl;
-    workers_count = refl;
-    count = refl;
-    same_workers = λ j d le. refl;
-    same_all_answers = λ j r le. refl;
-    done = λ j r lt. absurd (omega (arith, lt));
-    offers = record { leaves = λ lane n old new counts l. l; turn = turn_kept w };
-  }
-
-  pub all_drained : (now : List (Worker L)) (left : List LaneAnswers) (v : Waiting) → IsDraining (length all_answers) now left v → AreDrained workers all_answers left
-  all_drained now left v is = record { count = is.count; each = λ k r lt. is.done k r lt }
-
   module _ (k : ℕ) (now : List (Worker L)) (left : List LaneAnswers) (v : Waiting) (is : IsDraining k now left v) where
     pub beside_now : (d : Worker L) (e : LaneAnswers) → AreBeside workers all_answers → k < length all_answers → IsBeside (get_or now k d) (get_or left k e)
     beside_now d e beside lt =

@@ -62,11 +62,6 @@ module _ (a b : List LaneAnswers) (w v : Waiting) (old mid : Option (List ℕ)) 
   pub handed_then : (new : Option (List ℕ)) → Stays mid new → LeaveAll a b w v old new
   handed_then new same = written_then v new (λ lane n taken_so_far before. handed_on lane n taken_so_far v before mid new same)
 
-  pub cut_then : (new : Option (List ℕ))
-      → ((lane : ℕ → ℕ) (n : ℕ) (taken_so_far : ℕ → List Answer) (before : Option (List ℕ)) → Leaves lane n taken_so_far v before mid → HasLeft lane n taken_so_far before new)
-      → CutAll a b w old new
-  cut_then new on = record { cut = λ lane n before counts l. on lane n (taken_from b) before (so_far.leaves lane n before counts l) }
-
   pub cut_nowhere : CutAll a b w old mid
   cut_nowhere = record { cut = λ lane n before counts l. left_whole lane n (taken_from b) v before mid (so_far.leaves lane n before counts l) }
 

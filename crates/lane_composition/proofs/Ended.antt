@@ -43,9 +43,6 @@ sum_push count (e ∷ ends) end = let rest = sum_push count ends end in omega ar
 pub sum_more : (count : KeptEnd → ℕ) (ends : List KeptEnd) (n : ℕ) (d : KeptEnd) → n < length ends → sum_of count (take (n + 1) ends) ≡ sum_of count (take n ends) + count (get_or ends n d)
 sum_more count ends n d lt = ap (sum_of count) (take_more ends n d lt) ∙ sum_push count (take n ends) (get_or ends n d)
 
-pub sum_none : (count : KeptEnd → ℕ) → sum_of count [] ≡ 0
-sum_none count = refl
-
 total_shown : (shows : Members → RecordSoFar) (of : RecordSoFar → ℕ) (ms : List Members) → total of (map shows ms) ≡ total_by (λ m. of (shows m)) ms
 unfolding total total_by
 total_shown shows of [] = refl

@@ -30,20 +30,10 @@ unfolding Rises
 Rises-without [] y ys rises = rises.1
 Rises-without (x ∷ xs) y ys rises = (All-without (λ k. x < k) xs y ys rises.0, Rises-without xs y ys rises.1)
 
-pub Rises-front : (xs ys : List ℕ) → Rises (xs ++ ys) → Rises xs
-unfolding Rises
-Rises-front [] ys rises = tt
-Rises-front (x ∷ xs) ys rises = (All-front (λ k. x < k) xs ys rises.0, Rises-front xs ys rises.1)
-
 NeverFalls-without : (xs : List ℕ) (y : ℕ) (ys : List ℕ) → NeverFalls (xs ++ y ∷ ys) → NeverFalls (xs ++ ys)
 unfolding NeverFalls
 NeverFalls-without [] y ys along = along.1
 NeverFalls-without (x ∷ xs) y ys along = (All-without (λ k. x ≤ k) xs y ys along.0, NeverFalls-without xs y ys along.1)
-
-pub NeverFalls-front : (xs ys : List ℕ) → NeverFalls (xs ++ ys) → NeverFalls xs
-unfolding NeverFalls
-NeverFalls-front [] ys along = tt
-NeverFalls-front (x ∷ xs) ys along = (All-front (λ k. x ≤ k) xs ys along.0, NeverFalls-front xs ys along.1)
 
 abbrev pub names_of : List Members → List ℕ
 names_of ms = map name_of ms

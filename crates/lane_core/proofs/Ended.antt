@@ -162,10 +162,6 @@ all_same step same (past ∷ pasts) = ap (λ q. q ∷ map step pasts) (same past
 -- ---- before a packet
 
 module _ (app : Meaning) (control_at : ℕ → ControlState) where
-  if_same : (b : Bool) (past : RecordSoFar) → (if b then past else past) ≡ past
-  if_same true past = refl
-  if_same false past = refl
-
   -- a record that a packet doesn't belong to
   pub left_before : (p : VersionedPacket) (past : RecordSoFar) → belongs_to p.arrival.sight past ≡ false → ended_before app control_at p past ≡ past
   left_before p past fails = ap (λ b. if b && is_silent app control_at p.arrival.moment past then ended app control_at past else past) fails
@@ -180,11 +176,3 @@ module _ (app : Meaning) (control_at : ℕ → ControlState) where
   silent_before p past belongs silent =
       ap (λ b. if b && is_silent app control_at p.arrival.moment past then ended app control_at past else past) belongs
       ∙ ap (λ b. if b then ended app control_at past else past) silent
-
-  -- a packet's key has at most one open connection still
-  pub belongs_less : (p : VersionedPacket) (past : RecordSoFar) → belongs_to p.arrival.sight (ended_before app control_at p past) ≡ true → belongs_to p.arrival.sight past ≡ true
-  belongs_less p past = by p.arrival.sight
-    where
-      by : (sight : Sight) → belongs_to sight (ended_before app control_at p past) ≡ true → belongs_to sight past ≡ true
-      by (Tcp segment) passes = opens_nothing app control_at (ended_before app control_at p) (ends_before app control_at p) (key_of_segment segment) past passes
-      by (Other class) passes = passes

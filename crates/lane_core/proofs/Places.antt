@@ -85,10 +85,6 @@ place_by-set test (first ∷ pasts) (suc i) past d within same =
 
 -- ---- at most one record passes
 
-pub single_cases : (b : Bool) (A B : Type 0) → MatchBool b A B → (b ≡ true → A) × (b ≡ false → B)
-single_cases true A B m = (λ e. m, λ e. absurd (cc))
-single_cases false A B m = (λ e. absurd (cc), λ e. m)
-
 single_at_false : (b : Bool) (A B : Type 0) → b ≡ false → B → MatchBool b A B
 single_at_false true A B e m = absurd (cc)
 single_at_false false A B e m = m

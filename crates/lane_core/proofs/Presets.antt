@@ -25,7 +25,8 @@ use Rattle.builtin_events.specs.RaiseLaws.{all_raised, events_of, raised_around,
 use Rattle.event_trees.specs.Defs.{path}
 use Rattle.event_trees.specs.Fires.{fires}
 use Rattle.forest_versions.specs.State.{ControlState, start, active as first_active}
-use Rattle.connection_core.specs.PacketUnderWay.{PacketUnderWay, first_reason, called, called_all, called_at, raised, changed_all, settled, raise_done, phase}
+use Rattle.std.specs.Option.{option_or}
+use Rattle.connection_core.specs.PacketUnderWay.{PacketUnderWay, called, called_all, called_at, raised, changed_all, settled, raise_done, phase}
 use Rattle.connection_core.specs.History.{History, followed, sender_phase, receiver_phase, received_unless, begin, go_on, orphan_history}
 use Rattle.lane_core.specs.Sight.{Segment, Sight, Tcp, Other}
 use Rattle.lane_core.specs.Records.{orphan_raises_of}
@@ -59,7 +60,7 @@ logs-then c d e es fs one two = record {
   drop = two.drop ∙ one.drop;
 }
 
-same_reason : (r : Option Reason) → first_reason r None ≡ r
+same_reason : (r : Option Reason) → option_or r None ≡ r
 same_reason None = refl
 same_reason (Some reason) = refl
 

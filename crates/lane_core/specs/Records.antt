@@ -127,13 +127,8 @@ module _ (app : Meaning) (control_at : ℕ → ControlState) where
 
   -- the record with one packet more
   abbrev pub continued_by : Arrival → RecordSoFar → RecordSoFar
-  continued_by a so_far = record {
-    first = so_far.first;
-    version = so_far.version;
-    last = a;
-    ended = so_far.ended;
-    history = history_after app (control_at so_far.version) so_far.first.sight a so_far.history;
-  }
+  continued_by a so_far =
+      record so_far { last = a; history = history_after app (control_at so_far.version) so_far.first.sight a so_far.history }
 
   -- ---- ends by idleness
 

@@ -16,3 +16,21 @@ pub(crate) struct PacketTerms<'a, A> {
     pub(crate) number: u64,
     pub(crate) moment: Moment,
 }
+
+// What the callbacks of a packet run under, where a version is in force. It is a macro, so that proofs see its parts.
+macro_rules! terms_under {
+    ($terms:expr, $master:expr, $version:expr) => {
+        Terms {
+            alloc: $terms.alloc,
+            app: $terms.app,
+            in_force: InForce {
+                master: $master,
+                version: $version,
+            },
+            natives: $terms.natives,
+            keep: $terms.keep,
+        }
+    };
+}
+
+pub(crate) use terms_under;

@@ -9,19 +9,12 @@ use Rattle.lane_join.specs.Queues.{first_name, IsLowest, AreEmpty, IsBest, lower
 none_is_some : (m : ℕ) → None ≡ Some m → ⊥
 none_is_some m e = cc
 
-empty_more : (ls : List (List RecordUnderWay)) (n : ℕ) → AreEmpty ls n → first_name (list_at ls n) ≡ None → AreEmpty ls (n + 1)
-empty_more ls n empty none l lt = ⊎_elim (λ h. empty l h) (λ h. let at : l ≡ n = omega arith in subst (λ k. first_name (list_at ls k) ≡ None) (sym at) none) (cases_lt l n)
-
 lowest_past : (ls : List (List RecordUnderWay)) (n place name : ℕ) → IsLowest ls n place name → ((m : ℕ) → first_name (list_at ls n) ≡ Some m → name ≤ m) → IsLowest ls (n + 1) place name
 lowest_past ls n place name low last = record {
   below = let b = low.below in omega arith;
   own = low.own;
   least = λ l m lt e. ⊎_elim (λ h. low.least l m h e) (λ h. let at : l ≡ n = omega arith in last m (subst (λ k. first_name (list_at ls k) ≡ Some m) at e)) (cases_lt l n);
 }
-
-pub best_past : (best : Option (ℕ × ℕ)) (ls : List (List RecordUnderWay)) (n : ℕ) → IsBest best ls n → first_name (list_at ls n) ≡ None → IsBest best ls (n + 1)
-best_past None ls n is none = empty_more ls n is none
-best_past (Some b) ls n is none = lowest_past ls n b.0 b.1 is (λ m e. absurd (none_is_some m (sym none ∙ e)))
 
 some_is : (a b : ℕ) → Some a ≡ Some b → a ≡ b
 some_is a b e = cc

@@ -42,18 +42,6 @@ no_fall = tt
 pub so_far_none : (of : ℕ → ℕ) (ls : List (List RecordUnderWay)) → IsSoFar of ls ls []
 so_far_none of ls = record { rises = no_fall; parts = λ l. refl; above = λ l. all_above_none (names_in (list_at ls l)) }
 
-empty_by : (rs : List RecordUnderWay) → first_name rs ≡ None → rs ≡ []
-empty_by [] e = refl
-empty_by (r ∷ rs) e = absurd (cc)
-
-pub so_far_all : (of : ℕ → ℕ) (ls queues : List (List RecordUnderWay)) (merged : List RecordUnderWay) → IsSoFar of ls queues merged → AreEmpty queues (length queues) → IsMerge kept_name of ls merged
-so_far_all of ls queues merged so_far empty = record {
-  rises = so_far.rises;
-  parts = λ l.
-      let none : list_at queues l ≡ [] = ⊎_elim (λ lt. empty_by (list_at queues l) (empty l lt)) (λ le. get_or_past queues l [] le) (cases_lt l (length queues)) in
-      sym (append-nil (filter (λ r. of r.name == l) merged)) ∙ ap (λ x. filter (λ r. of r.name == l) merged ++ x) (sym none) ∙ so_far.parts l;
-}
-
 Rises-push : (ns : List ℕ) (n : ℕ) → Rises ns → All (λ m. m < n) ns → Rises (ns ++ n ∷ [])
 unfolding Rises
 Rises-push [] n rises below = (All-nil (λ k. n < k), tt)

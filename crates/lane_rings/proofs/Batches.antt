@@ -1,10 +1,9 @@
 -- Packets whose bytes stand one behind the other.
 use Rattle.std.proofs.Common.{◌≡◌, ◌+◌, ◌-◌, ◌≤◌, ℕ, refl, sym, ap, ◌∙◌, List, [], ◌∷◌, ◌++◌, length, take, drop, arith}
 use Rattle.std.specs.Prelude.{map}
-use Rattle.std.specs.List.{All, between}
-use Rattle.std.proofs.lemmas.List.{length-drop, length-append, drop-append-le, take-append-le, drop_at, take_all, map-append}
+use Rattle.std.specs.List.{All}
+use Rattle.std.proofs.lemmas.List.{length-drop, drop-append-le, take-append-le, drop_at, take_all, map-append}
 use Rattle.std.proofs.lemmas.List.Elements.{All-head, All-tail}
-use Rattle.pcap_source.specs.Captured.{Captured}
 use Rattle.lane_rings.specs.declared.items.Packet.{Packet}
 use Rattle.lane_rings.specs.declared.batch.Place.{Place}
 use Rattle.lane_rings.specs.Places.{IsWithin, packet_of}

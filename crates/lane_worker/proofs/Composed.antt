@@ -209,26 +209,3 @@ module _ {L : Type 0} (g : Ghosts L) (script : List Command) where
     silent = λ bad. sends_none a.answers;
     ran = ran_none a;
   }
-
-  -- what goes back counts for nothing
-  pub took_giving_back : (a b : Worker L) (used : Option (RingTx Batch)) (packets : List Packet) → TookUp g script a b packets → TookUp g script a (record b { used = used }) packets
-  took_giving_back a b used packets up = record {
-    places = up.places;
-    same = up.same;
-    number = up.number;
-    took_places = up.took_places;
-    answering = up.answering;
-    app = up.app;
-    keeps = up.keeps;
-    stayed = up.stayed;
-    silent = up.silent;
-    ran = λ well. let r = up.ran well in record {
-      turns = r.turns;
-      done = r.done;
-      bad = r.bad;
-      of_packets = r.of_packets;
-      went = r.went;
-      of_places = r.of_places;
-      answers = r.answers;
-    };
-  }

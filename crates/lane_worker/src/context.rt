@@ -1,5 +1,7 @@
 //! What all workers of a run share.
 
+ghost use Rattle.std.specs.Prelude.{◌≡◌};
+
 use control_script::Script;
 use native_filters::NativeBook;
 use std::alloc::Global;
@@ -17,4 +19,26 @@ pub struct WorkerContext<'a, R, G> {
     pub gate: &'a G,
     /// Raised where a lane fails.
     pub failed: &'a AtomicBool,
+}
+
+/// Makes a context of its parts. A closure for a scope holds them one by one: what it needs to be handed to a thread is then
+/// shown part by part.
+pub fn context_of<'a, R, G>(
+    rt: &'a R,
+    alloc: Global,
+    script: &'a Script,
+    natives: &'a NativeBook,
+    gate: &'a G,
+    failed: &'a AtomicBool,
+) -> WorkerContext<'a, R, G>
+    ensures script { result.script.now ≡ script.now }
+{
+    WorkerContext {
+        rt,
+        alloc,
+        script,
+        natives,
+        gate,
+        failed,
+    }
 }

@@ -27,7 +27,7 @@ mod worker;
 pub use at_hand::keep_at_hand;
 pub use backoff::Backoff;
 pub use commands::give_commands;
-pub use context::WorkerContext;
+pub use context::{WorkerContext, context_of};
 pub use gate::{Gate, OpenGate};
 pub use left::work_off;
 pub use worker::{Worker, take_turn, work, work_in};

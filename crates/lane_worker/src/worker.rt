@@ -13,7 +13,7 @@ ghost use Rattle.lane_worker.specs.Turning.{Decided, TookUp};
 
 use crate::at_hand::keep_at_hand;
 use crate::backoff::Backoff;
-use crate::context::WorkerContext;
+use crate::context::{WorkerContext, context_of};
 use crate::ends::{give_back, send_answer, send_copy, take_from};
 use crate::gate::Gate;
 use crate::turn::{hand_over, is_fit};
@@ -74,14 +74,7 @@ pub fn work<R: Wait, L: Recorder + Drop, G: Gate>(
     ensures ready { MayWork L.Recorder (commands_of script.now) result }
     ensures emptied { known result.packets ≡ [] }
 {
-    let context = WorkerContext {
-        rt,
-        alloc,
-        script,
-        natives,
-        gate,
-        failed,
-    };
+    let context = context_of(rt, alloc, script, natives, gate, failed);
     work_in(&context, w, stop)
 }
 

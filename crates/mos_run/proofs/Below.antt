@@ -25,7 +25,9 @@ use Rattle.mos_run.specs.declared.refusal.RunError.TheVariants as Run
 use Rattle.capture_replay.specs.Records.{packets_with, records_of}
 use Rattle.capture_replay.specs.Forward.{forwarded}
 use Rattle.capture_replay.specs.Outcome.{is_heavy, refused, outcome_by, followed, weighed, ended}
-use Rattle.mos_run.specs.Outcome.{StopsAs, followed_in_file, outcome, outcome_in_file, told}
+use Rattle.std.specs.Result.{result_map_both}
+use Rattle.mos_run.specs.Refusal.{replay_refusal}
+use Rattle.mos_run.specs.Outcome.{StopsAs, followed_in_file, outcome, outcome_in_file}
 use Rattle.mos_run.specs.Request.{Request, Refused, Asked, outcome_under}
 use Rattle.mos_run.specs.Run.{FinishesUnder, UnderSome}
 use Rattle.capture_replay.proofs.Closing.{some-closing}
@@ -64,7 +66,7 @@ module _ (app : Meaning) (script : List Stamped) (given : List Captured → List
   some_by header (Ok f) some ends = some_followed header f.frames f.ending some ends
   some_by header (Err e) some ends = absurd (cc)
 
-  told-well : (ends : Result (List ℕ) ReplayError) → told ends ≡ Ok versions → ends ≡ Ok versions
+  told-well : (ends : Result (List ℕ) ReplayError) → result_map_both (λ versions. versions) replay_refusal ends ≡ Ok versions → ends ≡ Ok versions
   told-well (Ok vs) is = cc
   told-well (Err e) is = absurd (cc)
 

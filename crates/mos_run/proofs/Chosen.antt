@@ -184,7 +184,7 @@ script_ran source shelf sink app s s0 h i o e which unasked counts fault lasts =
   only_usage = λ is. absurd (early-usage e which (err-same e Run.Usage is));
   unread = λ low. refl;
   refused = λ x is. (refl, refl);
-  made = λ m. refl;
+  made = λ x is some. refl;
   unasked = λ names. let stays = unasked (names s refl) in (stays.0, memory-two e stays.1);
   silent = λ report write memory. refl;
   shelf_faultless = λ ok. absurd (cc);
@@ -209,7 +209,7 @@ module _ {S H O : Type 0} (source : Source S) (shelf : Shelf H) (sink : Sink O) 
     only_usage = λ is. absurd (let late = late-of result Run.Usage ran.late is in omega (arith, late));
     unread = later (λ e. status_of e < 3 → t ≡ s0) (λ e late low. absurd (omega (arith, late, low))) result ran.late;
     refused = λ e is. absurd (refused e is);
-    made = λ m. ran.made (λ none. m.2 (sym (ap (λ y. y.make) (some-same s m.0 m.1)) ∙ sym makes ∙ none));
+    made = λ x same some. ran.made (λ none. some (sym (ap (λ y. y.make) (some-same s x same)) ∙ sym makes ∙ none));
     unasked = λ names. (unasked (names s refl), later (λ e. status_of e ≢ 2) (λ e late is. omega (arith, late, is)) result ran.late);
     silent = λ kept. ran.silent kept;
     shelf_faultless = λ ok. faultless;
@@ -251,7 +251,7 @@ words-ran source shelf sink app settings s h o error usage = record {
   only_usage = only-usage settings error usage;
   unread = λ low. refl;
   refused = λ e is. (refl, refl);
-  made = λ m. refl;
+  made = λ x is some. refl;
   unasked = λ names. (refl, not-two error);
   silent = λ report write memory. refl;
   shelf_faultless = λ ok. absurd (cc);

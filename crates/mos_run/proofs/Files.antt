@@ -28,7 +28,8 @@ use Rattle.mos_run.specs.declared.refusal.RunError.{RunError}
 use Rattle.mos_run.specs.declared.refusal.RunError.TheVariants as Run
 use Rattle.capture_replay.specs.Records.{packets_with}
 use Rattle.capture_replay.specs.Outcome.{Outcome, ended, followed, is_forward, is_heavy, made_for, outcome_by, outcome_over, refused, streamed, weighed}
-use Rattle.mos_run.specs.Outcome.{StopsAs, cut_off, followed_in_file, outcome, outcome_in_file, told, told_as}
+use Rattle.std.specs.Result.{result_map_both}
+use Rattle.mos_run.specs.Outcome.{StopsAs, followed_in_file, outcome, outcome_in_file, told_as}
 use Rattle.mos_run.specs.Explained.{explained, met_in}
 use Rattle.mos_run.specs.Refusal.{file_refusal, replay_refusal, status_of}
 use Rattle.mos_run.specs.Request.{Asked, Wanted, given_under}
@@ -59,13 +60,13 @@ unmet (Some fault) Replay.NoMemory never = refl
 -- ---- what a replay came to, as a run tells it
 
 told-stops : (o : Outcome ReplayError) (e : ReplayError) → ReplayStopsAs o e → StopsAs (told_as o) (replay_refusal e)
-told-stops o e (inl ends) = inl (ap told ends)
+told-stops o e (inl ends) = inl (ap (λ (r : Result (List ℕ) ReplayError). result_map_both (λ versions. versions) replay_refusal r) ends)
 told-stops o e (inr (inl fault)) = inr (inl (ap replay_refusal fault))
 told-stops o e (inr (inr (inl memory))) = inr (inr (inl (ap replay_refusal memory)))
 told-stops o e (inr (inr (inr write))) = inr (inr (inr (ap replay_refusal write.0, write.1)))
 
 told-done : (o : Outcome ReplayError) (versions : List ℕ) (old new : Option (List ℕ)) → Finishes o versions old new → Finishes (told_as o) versions old new
-told-done o versions old new done = record { answered = ap told done.answered; written = done.written }
+told-done o versions old new done = record { answered = ap (λ (r : Result (List ℕ) ReplayError). result_map_both (λ versions. versions) replay_refusal r) done.answered; written = done.written }
 
 -- ---- one outcome
 
@@ -101,15 +102,16 @@ module _ (app : Meaning) (script : List Stamped) (given : List Captured → List
     some-by false is frames n write some none = (begun is).1 write
 
     -- at the refusal of the file, behind whole records and a tail
-    told-at : (frames : List Captured) (f : Option NgFault) → fault ≡ f → e ≡ Replay.ReadFault → StopsAs (cut_off app script given output header frames refusal) (met_in fault e)
-    told-at frames None none is = inr (inl (ap (λ x. met_in x e) none ∙ ap replay_refusal is))
-    told-at frames (Some f) some is =
+    told-at : (frames : List Captured) (n : ℕ) (f : Option NgFault) → fault ≡ f → e ≡ Replay.ReadFault
+        → StopsAs (followed_in_file app script given output header frames (tail n) refusal) (met_in fault e)
+    told-at frames n None none is = inr (inl (ap (λ x. met_in x e) none ∙ ap replay_refusal is))
+    told-at frames n (Some f) some is =
         inl (ap (λ x. Err (file_refusal x)) (met f some) ∙ sym (ap (λ x. Err (met_in x e)) some ∙ ap (λ x. Err (met_in (Some f) x)) is))
 
     at-tail : (frames : List Captured) (n : ℕ) → ReplayStopsAs (weighed app script given output header frames n) e
-        → StopsAs (cut_off app script given output header frames refusal) (met_in fault e)
+        → StopsAs (followed_in_file app script given output header frames (tail n) refusal) (met_in fault e)
     at-tail frames n (inl ends) = absurd (light (weighed-ends output header frames n (is_heavy app script given output frames) e ends))
-    at-tail frames n (inr (inl is)) = told-at frames fault refl is
+    at-tail frames n (inr (inl is)) = told-at frames n fault refl is
     at-tail frames n (inr (inr (inl memory))) = inr (inr (inl (stays Replay.NoMemory memory (λ is. cc))))
     at-tail frames n (inr (inr (inr write))) = inr (inr (inr (stays Replay.WriteFault write.0 (λ is. cc), some-by (is_forward output) refl frames n write.0 write.1)))
 

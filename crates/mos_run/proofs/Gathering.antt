@@ -147,7 +147,7 @@ module _ {S H O E : Type 0} (source : Source S) (shelf : Shelf H) (sink : Sink O
     shelf_counts = omega arith;
     unread = λ is. refl;
     refused = λ x is. (refl, same);
-    made = λ is. refl;
+    made = λ x is some. refl;
     unasked = λ names. (refl, λ is. omega (arith, six, is));
     silent = λ report early. same;
     front = λ x is. record {

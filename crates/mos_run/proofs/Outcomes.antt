@@ -1,6 +1,9 @@
 -- What a run comes to, where the words, the shelf and the capture are told.
 use Rattle.std.proofs.Common.{◌≡◌, ◌≢◌, ℕ, Bool, true, false, List, [], take, Option, Some, None, Result, Ok, Err, refl, sym, ap, subst, ◌∙◌, append-nil, inl, inr}
-use Rattle.std.specs.Prelude.{◌⊎◌, if◌then◌else◌, ◌++◌, option_map, option_and_then, is_ok, ⊤}
+use Rattle.std.specs.Prelude.{◌⊎◌, if◌then◌else◌, ◌++◌, option_map, option_and_then, is_ok, not, IsTrue, ⊤}
+use Rattle.std.specs.List.{list_all}
+use Rattle.std.specs.Option.{option_map_or}
+use Rattle.control_script.specs.Versions.{is_live}
 use Rattle.mos_bytes.specs.Writes.{AppendsFront}
 use Rattle.mos_bytes.proofs.Writes.{AppendsFront-nil, AppendsFront-whole}
 use Rattle.app_api.specs.App.{Meaning}
@@ -12,6 +15,7 @@ use Rattle.pcapng_source.specs.Given.{Given}
 use Rattle.pcapng_source.specs.declared.fault.NgFault.{NgFault}
 use Rattle.control_script.specs.declared.stamped.Stamped.{Stamped}
 use Rattle.control_script.specs.Order.{are_in_order}
+use Rattle.words.specs.declared.settings.Emit.{Emit}
 use Rattle.words.specs.declared.settings.Settings.{Settings}
 use Rattle.words.specs.declared.settings.WordsError.{WordsError}
 use Rattle.words.specs.declared.settings.WordsError.TheVariants as Words
@@ -24,15 +28,15 @@ use Rattle.mos_run.specs.declared.refusal.RunError.{RunError}
 use Rattle.mos_run.specs.declared.refusal.RunError.TheVariants as Run
 use Rattle.capture_replay.specs.Records.{packets_of, packets_with, records_of, versions_of, frames_in}
 use Rattle.capture_replay.specs.Forward.{forwarded}
-use Rattle.capture_replay.specs.Outcome.{Outcome, refused, outcome_by, followed, streamed, ended, is_forward, is_heavy, made_for, output_of, outcome_over}
+use Rattle.capture_replay.specs.Outcome.{Outcome, refused, outcome_by, followed, streamed, ended, is_forward, is_heavy, made_for, output_by, output_of, outcome_over}
 use Rattle.mos_run.specs.Outcome.{StopsAs, followed_in_file, outcome, outcome_in_file, told_as}
 use Rattle.mos_run.specs.Request.{Request, Refused, Asked, Allows, AreAllowed, Wanted, asked, given_under, outcome_under, requested, wanted}
-use Rattle.mos_run.specs.Script.{commands_in, text_under}
+use Rattle.mos_run.specs.Script.{commands_in}
 use Rattle.mos_run.specs.Refusal.{file_refusal, status_of, words_refusal}
 use Rattle.capture_replay.specs.Runs.{Finishes, RunsAs, StopsAs as ReplayStopsAs, bytes_under}
 use Rattle.capture_replay.specs.Typed.{ReportIsTyped, WritesTyped}
 use Rattle.mos_run.specs.Runs.{ReplayFinishes, Replays}
-use Rattle.mos_run.specs.Run.{FinishesAlone, FinishesUnder, RunsUnder, EndsAs, EndsWell, UnderSome}
+use Rattle.mos_run.specs.Run.{FinishesUnder, RunsUnder, EndsAs, EndsWell, UnderSome}
 use Rattle.capture_replay.specs.Lanes.{RunsWith}
 use Rattle.capture_replay.specs.Laws.{ceilings_of, CeilingsMayBeHad, CeilingsAreOneWorkers, CeilingsForwardTheSame, OneListIsAllowed}
 use Rattle.mos_run.proofs.Scripts.{commands_order}
@@ -42,7 +46,7 @@ unfolding requested
 refused-request app content left = refl
 
 accepted-request : (app : Meaning) (s : Settings) (content : List ℕ → Option (List ℕ)) (left : Option (List ℕ))
-    → requested app (Some s) content left ≡ option_and_then (λ text. asked app s left (commands_in app text)) (text_under s.script content)
+    → requested app (Some s) content left ≡ option_and_then (λ text. asked app s left (commands_in app text)) (option_map_or content s.script (Some []))
 unfolding requested
 accepted-request app s content left = refl
 
@@ -51,10 +55,10 @@ accepted-request app s content left = refl
 -- accepted words have a text that was told, under which it is told what to do
 pub record IsUnderText (app : Meaning) (s : Settings) (content : List ℕ → Option (List ℕ)) (left : Option (List ℕ)) (t : Request) : Type 0 where
   pub text : List ℕ
-  pub told_so : text_under s.script content ≡ Some text
+  pub told_so : option_map_or content s.script (Some []) ≡ Some text
   pub comes_to : asked app s left (commands_in app text) ≡ Some t
 
-under-by : (app : Meaning) (s : Settings) (content : List ℕ → Option (List ℕ)) (left : Option (List ℕ)) (t : Request) (text : Option (List ℕ)) → text_under s.script content ≡ text
+under-by : (app : Meaning) (s : Settings) (content : List ℕ → Option (List ℕ)) (left : Option (List ℕ)) (t : Request) (text : Option (List ℕ)) → option_map_or content s.script (Some []) ≡ text
     → option_and_then (λ text. asked app s left (commands_in app text)) text ≡ Some t → IsUnderText app s content left t
 under-by app s content left t None is comes = absurd (cc)
 under-by app s content left t (Some text) is comes = record { text = text; told_so = is; comes_to = comes }
@@ -62,7 +66,7 @@ under-by app s content left t (Some text) is comes = record { text = text; told_
 pub under_text : (app : Meaning) (settings : Option Settings) (content : List ℕ → Option (List ℕ)) (left : Option (List ℕ)) (t : Request) (s : Settings)
     → settings ≡ Some s → requested app settings content left ≡ Some t → IsUnderText app s content left t
 under_text app settings content left t s accepted is =
-    under-by app s content left t (text_under s.script content) refl
+    under-by app s content left t (option_map_or content s.script (Some [])) refl
     (sym (ap (λ x. requested app x content left) accepted ∙ accepted-request app s content left) ∙ is)
 
 -- an accepted script has a capture that was told
@@ -76,10 +80,16 @@ over-by : (app : Meaning) (s : Settings) (left : Option (List ℕ)) (commands : 
 over-by app s left commands t None is comes = absurd (cc)
 over-by app s left commands t (Some file) is comes = record { file = file; told_so = is; comes_to = cc }
 
+made-same : (make : Option ℕ) (emit : Emit) → made_for (output_by make emit) ≡ make
+made-same (Some n) emit = refl
+made-same None Emit.Report = refl
+made-same None Emit.Forward = refl
+made-same None Emit.Summary = refl
+
 pub over_file : (app : Meaning) (s : Settings) (content : List ℕ → Option (List ℕ)) (left : Option (List ℕ)) (t : Request) (commands : List Stamped)
     → (u : IsUnderText app s content left t) → commands_in app u.text ≡ Ok commands → IsOver app s left commands t
 over_file app s content left t commands u accepted =
-    over-by app s left commands t (given_under (made_for (output_of s)) left) refl (sym (ap (asked app s left) accepted) ∙ u.comes_to)
+    over-by app s left commands t (given_under s.make left) (ap (λ make. given_under make left) (made-same s.make s.emit)) (sym (ap (asked app s left) accepted) ∙ u.comes_to)
 
 -- a refused script
 pub refused_text : (app : Meaning) (s : Settings) (content : List ℕ → Option (List ℕ)) (left : Option (List ℕ)) (t : Request) (e : RunError)
@@ -88,7 +98,7 @@ refused_text app s content left t e u refusal = let same = sym (ap (asked app s 
 
 -- where words and script are accepted, nothing is refused
 pub not_refused : (app : Meaning) (settings : Option Settings) (content : List ℕ → Option (List ℕ)) (left : Option (List ℕ)) (s : Settings) (commands : List Stamped) (e : RunError)
-    → settings ≡ Some s → ((text : List ℕ) → text_under s.script content ≡ Some text → commands_in app text ≡ Ok commands)
+    → settings ≡ Some s → ((text : List ℕ) → option_map_or content s.script (Some []) ≡ Some text → commands_in app text ≡ Ok commands)
     → requested app settings content left ≡ Some (Refused e) → ⊥
 not_refused app settings content left s commands e accepted read is =
     let u = under_text app settings content left (Refused e) s accepted is in
@@ -273,10 +283,10 @@ order-by app (Some s) content left w file is =
     asked-order app s content left w file (commands_in app u.text) u refl
 
 -- it ends well as that of one worker
-pub finishes_alone : CeilingsAreOneWorkers → CeilingsForwardTheSame → OneListIsAllowed → (app : Meaning) (settings : Option Settings) (content : List ℕ → Option (List ℕ)) (left : Option (List ℕ)) (t : Request)
-    (versions : List ℕ) (old new : Option (List ℕ)) → requested app settings content left ≡ Some t → FinishesUnder t versions old new → FinishesAlone t versions old new
-finishes_alone same forwards known app settings content left (Refused e) versions old new is done = tt
-finishes_alone same forwards known app settings content left (Asked w file) versions old new is done = λ stamped.
+pub finishes_alone : CeilingsAreOneWorkers → CeilingsForwardTheSame → OneListIsAllowed → (app : Meaning) (settings : Option Settings) (content : List ℕ → Option (List ℕ)) (left : Option (List ℕ)) (w : Wanted) (file : Given)
+    (versions : List ℕ) (old new : Option (List ℕ)) → requested app settings content left ≡ Some (Asked w file) → FinishesUnder (Asked w file) versions old new
+    → IsTrue (list_all (λ s. not (is_live s.stamp)) w.commands) → Finishes (outcome w.app w.commands (packets_of w.commands) w.output file) versions old new
+finishes_alone same forwards known app settings content left w file versions old new is done stamped =
     let ordered = order-by app settings content left w file is in
     let ceilings : versions ≡ ceilings_of w.app w.commands file.bytes = known w.app w.commands w.workers file.bytes versions ordered stamped done.allowed.may_have in
     subst (λ o. Finishes o versions old new)

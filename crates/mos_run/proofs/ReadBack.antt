@@ -17,14 +17,16 @@ use Rattle.capture_replay.specs.Records.{packets_with, records_of, versions_of}
 use Rattle.capture_replay.specs.Outcome.{ended, followed, is_heavy, outcome_by, outcome_over, refused}
 use Rattle.capture_replay.specs.ReadBack.{ReportIsReadBack}
 use Rattle.capture_replay.specs.Runs.{Finishes}
-use Rattle.mos_run.specs.Outcome.{followed_in_file, outcome, outcome_in_file, told, told_as}
+use Rattle.std.specs.Result.{result_map_both}
+use Rattle.mos_run.specs.Refusal.{replay_refusal}
+use Rattle.mos_run.specs.Outcome.{followed_in_file, outcome, outcome_in_file, told_as}
 use Rattle.mos_run.specs.ReadBack.{ReportOfRunIsReadBack}
 use Rattle.mos_run.specs.Request.{Wanted}
 
 -- ---- a run over a file that ended well came to the end of a capture
 
 module _ (app : Meaning) (script : List Stamped) (given : List Captured → List VersionedPacket) (output : Output) (header versions : List ℕ) where
-  weighed-ends : (frames : List Captured) (n : ℕ) (heavy : Bool) → told (if heavy then refused Replay.Heavy else ended app script given output header frames n).ends ≡ Ok versions
+  weighed-ends : (frames : List Captured) (n : ℕ) (heavy : Bool) → result_map_both (λ versions. versions) replay_refusal (if heavy then refused Replay.Heavy else ended app script given output header frames n).ends ≡ Ok versions
       → (if heavy then refused Replay.Heavy else ended app script given output header frames n).ends ≡ Ok versions
   weighed-ends frames n true ends = absurd (cc)
   weighed-ends frames n false ends = let same : versions_of (records_of app script given frames) ≡ versions = cc in ap (λ vs. Ok vs) same
@@ -32,7 +34,7 @@ module _ (app : Meaning) (script : List Stamped) (given : List Captured → List
   abbrev EndsInTail : List Captured → Ending → Type 0
   EndsInTail frames ending = (n : ℕ) × (ending ≡ tail n) × ((followed app script given output header frames ending).ends ≡ Ok versions)
 
-  told-ending : (frames : List Captured) (ending : Ending) → told (followed app script given output header frames ending).ends ≡ Ok versions → EndsInTail frames ending
+  told-ending : (frames : List Captured) (ending : Ending) → result_map_both (λ versions. versions) replay_refusal (followed app script given output header frames ending).ends ≡ Ok versions → EndsInTail frames ending
   told-ending frames (tail n) ends = (n, refl, weighed-ends frames n (is_heavy app script given output frames) ends)
   told-ending frames (too_long offset) ends = absurd (cc)
   told-ending frames (too_many offset) ends = absurd (cc)

@@ -1,6 +1,7 @@
 -- The script of a text: where none is named it has no commands, and its commands are in order.
 use Rattle.std.proofs.Common.{◌≡◌, ◌≢◌, ℕ, Bool, true, false, List, [], ◌∷◌, ◌++◌, length, Option, Some, None, Result, Ok, Err, refl, ap, subst, ◌∙◌}
 use Rattle.std.specs.Prelude.{nat_le, nat_lt, if◌then◌else◌}
+use Rattle.std.specs.Result.{result_map_both}
 use Rattle.std.specs.List.{list_any}
 use Rattle.app_api.specs.declared.registration.Reg.{Reg}
 use Rattle.forest_versions.specs.declared.refusal.Refusal.{Refusal}
@@ -11,12 +12,12 @@ use Rattle.control_script.specs.declared.error.ScriptError.TheVariants as Text
 use Rattle.control_script.specs.declared.stamped.Stamped.{Stamped}
 use Rattle.control_script.specs.Lines.{lines, without_return, is_skipped, next_line}
 use Rattle.control_script.specs.Order.{commands_of, is_later, are_in_order}
-use Rattle.control_script.specs.Script.{said, joined, admitted_said, line_read, then_lines, lines_read, script}
+use Rattle.control_script.specs.Script.{said, joined, admitted, unless_refused, line_read, lines_read, script}
 use Rattle.control_script.proofs.Marks.{in_order-more}
 use Rattle.app_api.specs.App.{Meaning}
 use Rattle.mos_run.specs.declared.refusal.RunError.TheVariants as Run
 use Rattle.mos_run.specs.Refusal.{script_refusal}
-use Rattle.mos_run.specs.Script.{commands_in, read_as}
+use Rattle.mos_run.specs.Script.{commands_in}
 
 -- no text has no commands
 empty_script : (presets : List Reg) → script [] presets ≡ Ok []
@@ -47,7 +48,7 @@ admitted-by n before after s false false None more is = let same : before ++ s �
 admitted-by n before after s false false (Some r) more is = absurd (cc)
 
 line-by : (presets : List Reg) (n : ℕ) (before after : List Stamped) (skipped : Bool) (said : Result Stamped ScriptError) → are_in_order before ≡ true
-    → (if skipped then Ok before else admitted_said presets n before said) ≡ Ok after → are_in_order after ≡ true
+    → (if skipped then Ok before else unless_refused (admitted presets n before) said) ≡ Ok after → are_in_order after ≡ true
 line-by presets n before after true said ordered is = let same : before ≡ after = cc in subst (λ l. are_in_order l ≡ true) same ordered
 line-by presets n before after false (Ok s) ordered is =
     admitted-by n before after s (nat_le 4096 (length before)) (list_any (λ b. is_later b.stamp s.stamp) before) (refusal (control presets (commands_of before)) s.command)
@@ -60,7 +61,7 @@ lines-order presets n (l ∷ ls) before after ordered is =
     by (λ mid first rest. lines-order presets (next_line n) ls mid after first rest) (line_read presets n before (without_return l)) refl is
   where
     by : ((mid : List Stamped) → are_in_order mid ≡ true → lines_read presets (next_line n) ls mid ≡ Ok after → are_in_order after ≡ true) → (r : Result (List Stamped) ScriptError)
-        → line_read presets n before (without_return l) ≡ r → then_lines (lines_read presets (next_line n) ls) r ≡ Ok after → are_in_order after ≡ true
+        → line_read presets n before (without_return l) ≡ r → unless_refused (lines_read presets (next_line n) ls) r ≡ Ok after → are_in_order after ≡ true
     by more (Ok mid) here rest = more mid (line-by presets n before mid (is_skipped (without_return l)) (said n (without_return l)) ordered here) rest
     by more (Err e) here rest = absurd (cc)
 
@@ -74,7 +75,7 @@ pub commands_order : (app : Meaning) (text : List ℕ) (commands : List Stamped)
 commands_order app text commands is = by (nat_lt 262144 (length text)) (script text app.presets) refl is
   where
     by : (long : Bool) (r : Result (List Stamped) ScriptError) → script text app.presets ≡ r
-        → (if long then Err Run.ScriptTooLong else read_as r) ≡ Ok commands → are_in_order commands ≡ true
+        → (if long then Err Run.ScriptTooLong else result_map_both (λ commands. commands) script_refusal r) ≡ Ok commands → are_in_order commands ≡ true
     by true r here comes = absurd (cc)
     by false (Ok found) here comes =
         let same : found ≡ commands = cc in

@@ -1,8 +1,9 @@
 -- How a run over a file ends, and what it writes: a replay of what the file gives, behind which the file may be refused.
 use Rattle.std.specs.Prelude.{◌≡◌, ◌≢◌, ◌⊎◌, ℕ, List, [], take, Option, Some, None, Result, Ok, Err}
+use Rattle.std.specs.Result.{result_map_both}
 use Rattle.app_api.specs.App.{Meaning}
 use Rattle.pcap_source.specs.Captured.{Captured}
-use Rattle.pcap_source.specs.Capture.{Frames, Ending, tail, too_long, too_many, capture_of}
+use Rattle.pcap_source.specs.Capture.{Frames, Ending, tail, capture_of}
 use Rattle.pcap_source.specs.declared.errors.OpenError.{OpenError}
 use Rattle.pcapng_source.specs.Given.{Given}
 use Rattle.pcapng_source.specs.declared.fault.NgFault.{NgFault}
@@ -16,24 +17,15 @@ use Rattle.mos_run.specs.declared.refusal.RunError.TheVariants.{ReadFault, Write
 use Rattle.mos_run.specs.Refusal.{file_refusal, replay_refusal}
 
 -- how a replay ended, as a run tells it
-abbrev pub told : Result (List ℕ) ReplayError → Result (List ℕ) RunError
-told (Ok versions) = Ok versions
-told (Err e) = Err (replay_refusal e)
-
 abbrev pub told_as : Outcome ReplayError → Outcome RunError
-told_as o = record { text = o.text; ends = told o.ends }
+told_as o = record { text = o.text; ends = result_map_both (λ versions. versions) replay_refusal o.ends }
 
 -- `given` gives the capture's packets their versions
 module _ (app : Meaning) (script : List Stamped) (given : List Captured → List VersionedPacket) where
-  -- what is written while the capture is read, up to this refusal of the file
-  abbrev pub cut_off : Output → List ℕ → List Captured → NgFault → Outcome RunError
-  cut_off output header frames fault = record { text = streamed app script given output header frames; ends = Err (file_refusal fault) }
-
   -- Whole records, to where what the file gives is refused by a record of its own, or else to what stands behind all of its bytes.
   abbrev pub followed_in_file : Output → List ℕ → List Captured → Ending → NgFault → Outcome RunError
-  followed_in_file output header frames (tail n) fault = cut_off output header frames fault
-  followed_in_file output header frames (too_long offset) fault = told_as (followed app script given output header frames (too_long offset))
-  followed_in_file output header frames (too_many offset) fault = told_as (followed app script given output header frames (too_many offset))
+  followed_in_file output header frames (tail n) fault = record { text = streamed app script given output header frames; ends = Err (file_refusal fault) }
+  followed_in_file output header frames ending fault = told_as (followed app script given output header frames ending)
 
   abbrev pub outcome_in_file : Output → List ℕ → Result Frames OpenError → Option NgFault → Outcome RunError
   outcome_in_file output header capture None = told_as (outcome_by app script given output header capture)

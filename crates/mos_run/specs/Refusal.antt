@@ -31,10 +31,8 @@ status_of (BadBlock offset) = 3
 status_of ReadFault = 4
 status_of WriteFault = 5
 status_of NoMemory = 6
-status_of (TooMany offset) = 7
-status_of (TooManyBlocks offset) = 7
-status_of (TooManyInterfaces offset) = 7
-status_of Heavy = 7
+-- more than is allowed
+status_of _ = 7
 
 abbrev pub fault_text : CaptureFault → List ℕ
 fault_text Fault.BadMagic = codes "bad magic"

@@ -1,6 +1,6 @@
 -- What the words, the shelf and the capture come to.
-use Rattle.std.specs.Prelude.{◌≡◌, ℕ, not, List, Option, Some, None, option_map, option_and_then, Result, Ok, Err, IsTrue, ⊤}
-use Rattle.std.specs.List.{list_all}
+use Rattle.std.specs.Prelude.{◌≡◌, ℕ, List, [], Option, Some, None, option_map, option_and_then, Result, Ok, Err, ⊤}
+use Rattle.std.specs.Option.{option_map_or}
 use Rattle.capture_maker.specs.Made.{made}
 use Rattle.app_api.specs.App.{Meaning}
 use Rattle.app_api.specs.Log.{log}
@@ -8,7 +8,6 @@ use Rattle.pcap_source.specs.Capture.{capture_of}
 use Rattle.pcapng_source.specs.Given.{Given, whole}
 use Rattle.pcapng_source.specs.Blocks.{any}
 use Rattle.control_script.specs.declared.stamped.Stamped.{Stamped}
-use Rattle.control_script.specs.Versions.{is_live}
 use Rattle.words.specs.declared.settings.Settings.{Settings}
 use Rattle.words.specs.Words.{words_settings}
 use Rattle.words.specs.Own.{own_settings}
@@ -18,9 +17,9 @@ use Rattle.mos_run.specs.declared.refusal.RunError.TheVariants.{Usage}
 use Rattle.applications.specs.Apps.{meaning_of}
 use Rattle.capture_replay.specs.Records.{frames_in, packets_of, packets_with, records_of, versions_of}
 use Rattle.capture_replay.specs.declared.output.Output.{Output}
-use Rattle.capture_replay.specs.Outcome.{Outcome, made_for, output_of, refused}
+use Rattle.capture_replay.specs.Outcome.{Outcome, output_of, refused}
 use Rattle.mos_run.specs.Outcome.{outcome}
-use Rattle.mos_run.specs.Script.{commands_in, text_under}
+use Rattle.mos_run.specs.Script.{commands_in}
 
 -- what a run is asked to do: which application it calls, under which commands, with how many workers, and what it writes
 pub record Wanted : Type 0 where
@@ -46,18 +45,17 @@ module _ (app : Meaning) where
 
   abbrev pub asked : Settings → Option (List ℕ) → Result (List Stamped) RunError → Option Request
   asked s left (Err e) = Some (Refused e)
-  asked s left (Ok commands) = option_map (Asked (wanted s commands)) (given_under (made_for (output_of s)) left)
+  asked s left (Ok commands) = option_map (Asked (wanted s commands)) (given_under s.make left)
 
   -- What a run under these settings, or refused words, is told, where the shelf has this content and the capture these bytes. There is
-  -- none where something that it needs isn't told.
+  -- none where something that it needs isn't told. Where no script is named, its text is the empty one.
   unfoldable pub requested : Option Settings → (List ℕ → Option (List ℕ)) → Option (List ℕ) → Option Request
   requested None content left = Some (Refused Usage)
-  requested (Some s) content left = option_and_then (λ text. asked s left (commands_in app text)) (text_under s.script content)
+  requested (Some s) content left = option_and_then (λ text. asked s left (commands_in app text)) (option_map_or content s.script (Some []))
 
 -- the application that settings choose
 abbrev pub app_in : Option Settings → Meaning
-app_in None = log
-app_in (Some s) = meaning_of s.app
+app_in settings = option_map_or (λ s. meaning_of s.app) settings log
 
 -- what the words of the program tell
 abbrev pub request_of : List (List ℕ) → (List ℕ → Option (List ℕ)) → Option (List ℕ) → Option Request
@@ -83,14 +81,3 @@ Allows (Asked w file) vs = AreAllowed w file.bytes vs
 abbrev pub outcome_under : List ℕ → Request → Outcome RunError
 outcome_under vs (Refused e) = refused e
 outcome_under vs (Asked w file) = outcome w.app w.commands (packets_with w.app w.commands vs) w.output file
-
--- ---- the run of one worker
-
--- no command of a script is stamped live
-abbrev pub HasNoLive : List Stamped → Type 0
-HasNoLive commands = IsTrue (list_all (λ s. not (is_live s.stamp)) commands)
-
--- How a run of one worker ends, and what it writes: each record has the ceiling of its first packet. How many workers are asked for
--- doesn't matter.
-abbrev pub outcome_alone : Wanted → Given → Outcome RunError
-outcome_alone w file = outcome w.app w.commands (packets_of w.commands) w.output file

@@ -1,24 +1,28 @@
 -- What the top call promises.
-use Rattle.std.specs.Prelude.{◌≡◌, ◌≢◌, ◌⊎◌, ◌≤◌, ℕ, Bool, false, List, [], Option, Some, None, Result, Ok, Err, IsOk, ⊤}
+use Rattle.std.specs.Prelude.{◌≡◌, ◌≢◌, ◌⊎◌, ◌≤◌, ℕ, Bool, false, not, List, [], Option, Some, None, Result, Ok, Err, IsOk, IsTrue, ⊤}
+use Rattle.std.specs.List.{list_all}
+use Rattle.std.specs.Option.{option_map_or}
 use Rattle.mos_bytes.specs.Causes.{Rose, HasCauseOf}
 use Rattle.mos_bytes.specs.declared.source.Source.{Ghosts as Source}
 use Rattle.mos_bytes.specs.declared.shelf.Shelf.{Ghosts as Shelf}
 use Rattle.mos_bytes.specs.declared.sink.Sink.{Ghosts as Sink}
 use Rattle.mos_bytes.specs.Writes.{AppendsFront}
+use Rattle.pcapng_source.specs.Given.{Given}
+use Rattle.control_script.specs.Versions.{is_live}
 use Rattle.words.specs.Words.{words_settings}
 use Rattle.words.specs.declared.settings.Settings.{Settings}
 use Rattle.mos_run.specs.declared.ended.Ended.{Ended}
 use Rattle.mos_run.specs.declared.refusal.RunError.{RunError}
 use Rattle.mos_run.specs.declared.refusal.RunError.TheVariants.{NoMemory, Usage}
 use Rattle.capture_replay.specs.declared.output.Output.TheVariants.{Report}
-use Rattle.capture_replay.specs.Records.{packets_with}
+use Rattle.capture_replay.specs.Records.{packets_of, packets_with}
 use Rattle.capture_replay.specs.Outcome.{Outcome, is_forward, output_of}
 use Rattle.mos_run.specs.Refusal.{WritesText, status_of, refusal_text}
 use Rattle.capture_replay.specs.Runs.{Finishes}
 use Rattle.capture_replay.specs.Typed.{ReportIsTyped}
-use Rattle.mos_run.specs.Outcome.{StopsAs}
+use Rattle.mos_run.specs.Outcome.{StopsAs, outcome}
 use Rattle.app_api.specs.App.{Meaning}
-use Rattle.mos_run.specs.Request.{Request, Refused, Asked, Allows, HasNoLive, app_in, outcome_alone, outcome_under, requested}
+use Rattle.mos_run.specs.Request.{Request, Refused, Asked, Wanted, Allows, app_in, outcome_under, requested}
 
 -- the status of a run with this outcome
 abbrev pub EndsAs : Outcome RunError → ℕ → Type 0
@@ -40,11 +44,6 @@ pub record FinishesUnder (request : Request) (versions : List ℕ) (old new : Op
   pub allowed : Allows request versions
   pub finishes : Finishes (outcome_under versions request) versions old new
   pub typed : HasTypes request versions
-
--- where no command is stamped live, the run ends well as that of one worker does
-abbrev pub FinishesAlone : Request → List ℕ → Option (List ℕ) → Option (List ℕ) → Type 0
-FinishesAlone (Refused e) versions old new = ⊤
-FinishesAlone (Asked w file) versions old new = HasNoLive w.commands → Finishes (outcome_alone w file) versions old new
 
 -- a run ends well under all versions that it may have
 abbrev pub EndsWell : Request → Type 0
@@ -75,16 +74,11 @@ ComesBefore status = (status ≡ 1) ⊎ (status ≡ 2) ⊎ (status ≡ 3) ⊎ (s
 
 -- whether settings ask for a forwarded capture
 abbrev pub forwards : Option Settings → Bool
-forwards None = false
-forwards (Some s) = is_forward (output_of s)
+forwards settings = option_map_or (λ s. is_forward (output_of s)) settings false
 
 -- they name no script
 abbrev pub NamesNone : Option Settings → Type 0
 NamesNone settings = (s : Settings) → settings ≡ Some s → s.script ≡ None
-
--- they ask for a capture to be made
-abbrev pub Makes : Option Settings → Type 0
-Makes settings = (s : Settings) × (settings ≡ Some s) × (s.make ≢ None)
 
 -- the capture was read whole, where none is made
 abbrev pub ReadsCapture : Option Settings → Option (List ℕ) → Option (List ℕ) → Type 0
@@ -123,7 +117,7 @@ module _ {S H O E : Type 0} (source : Source S) (shelf : Shelf H) (sink : Sink O
     pub unread : (ended.status ≡ 1) ⊎ (ended.status ≡ 2) → new.capture ≡ old.capture
     -- refused words and a refused script, whatever the status that tells it
     pub refused : (e : RunError) → IsAsked app settings old (Refused e) → (new.capture ≡ old.capture) × (new.out ≡ old.out)
-    pub made : Makes settings → new.capture ≡ old.capture
+    pub made : (s : Settings) → settings ≡ Some s → s.make ≢ None → new.capture ≡ old.capture
     pub unasked : NamesNone settings → (new.shelf ≡ old.shelf) × (ended.status ≢ 2)
     -- what is written where the output isn't whole
     pub silent : forwards settings ≡ false → ComesBefore ended.status → new.out ≡ old.out
@@ -148,8 +142,9 @@ module _ {S H O E : Type 0} (source : Source S) (shelf : Shelf H) (sink : Sink O
   pub record Promised (app : Meaning) (settings : Option Settings) (old new : Outside S H O E) (ended : Ended) : Type 0 where
     -- with status 0 exactly the text of the run's outcome was added to the output, under the versions answered, which it may have
     pub done : ended.status ≡ 0 → (x : Request) → IsAsked app settings old x → FinishesUnder x ended.versions (sink.taken old.out) (sink.taken new.out)
-    -- without live commands that is the outcome of one worker, however many there are
-    pub alone : ended.status ≡ 0 → (x : Request) → IsAsked app settings old x → FinishesAlone x ended.versions (sink.taken old.out) (sink.taken new.out)
+    -- without live commands that is the outcome of one worker, however many there are: each record has the ceiling of its first packet
+    pub alone : ended.status ≡ 0 → (w : Wanted) (file : Given) → IsAsked app settings old (Asked w file) → IsTrue (list_all (λ s. not (is_live s.stamp)) w.commands)
+        → Finishes (outcome w.app w.commands (packets_of w.commands) w.output file) ended.versions (sink.taken old.out) (sink.taken new.out)
     pub rest : RanUnder app settings old new ended
 
   -- what a run of mos under these words promises: they choose the application, too

@@ -21,7 +21,7 @@ use Rattle.capture_replay.specs.Runs.{Finishes, StopsAs}
 use Rattle.capture_replay.specs.Typed.{ReportIsTyped}
 use Rattle.mos_run.specs.Refusal.{status_of}
 use Rattle.mos_run.specs.Request.{AreAllowed, Asked, Refused, Wanted, given_under, requested}
-use Rattle.mos_run.specs.Run.{RunsUnder, ReadsCapture, Makes, NamesNone, forwards}
+use Rattle.mos_run.specs.Run.{RunsUnder, ReadsCapture, NamesNone, forwards}
 
 -- what a task asks, for the meaning of its application
 abbrev pub wanted_by : {A : Type 0} → (A → Meaning) → Task A → Wanted
@@ -70,7 +70,7 @@ module _ {S H O : Type 0} (source : Source S) (shelf : Shelf H) (sink : Sink O) 
     pub only_usage : IsErrOf result Usage → settings ≡ None
     pub unread : IfErr result (λ e. status_of e < 3 → t ≡ s)
     pub refused : (e : RunError) → requested app settings (shelf.content h) (source.left s) ≡ Some (Refused e) → (t ≡ s) × (p ≡ o)
-    pub made : Makes settings → t ≡ s
+    pub made : (x : Settings) → settings ≡ Some x → x.make ≢ None → t ≡ s
     pub unasked : NamesNone settings → (i ≡ h) × IfErr result (λ e. status_of e ≢ 2)
     pub silent : forwards settings ≡ false → IfErr result (λ e. e ≢ WriteFault → e ≢ NoMemory → p ≡ o)
     pub shelf_faultless : IsOk result → shelf.faults i ≡ shelf.faults h

@@ -1,9 +1,10 @@
 //! The script of a run.
 
-ghost use Rattle.std.specs.Prelude.{◌≡◌, ◌⊎◌, ◌<◌, ◌≤◌, ℕ, List, length, Some, None, Ok, Err, IsOk, IfOk, IfErr, OnOk, IsTrue, IsErrOf};
+ghost use Rattle.std.specs.Prelude.{◌≡◌, ◌⊎◌, ◌<◌, ◌≤◌, ℕ, List, [], length, Some, None, Ok, Err, IsOk, IfOk, IfErr, OnOk, IsTrue, IsErrOf};
+ghost use Rattle.std.specs.Option.{option_map_or};
 ghost use Rattle.control_script.specs.Order.{are_in_order};
 ghost use Rattle.mos_bytes.specs.Outside.{Fetches};
-ghost use Rattle.mos_run.specs.Script.{commands_in, text_under};
+ghost use Rattle.mos_run.specs.Script.{commands_in};
 ghost use Rattle.mos_run.specs.Refusal.{status_of};
 ghost use Rattle.capture_replay.specs.Runs.{MayRun};
 
@@ -23,11 +24,11 @@ fn text_of<H: Shelf>(
     shelf: &mut H,
     name: &Option<Name>,
 ) -> Result<Vec<u8>, FetchError>
-    ensures text { IfOk result (λ bytes. (text : List ℕ) → text_under name.now (H.content shelf.old) ≡ Some text
+    ensures text { IfOk result (λ bytes. (text : List ℕ) → option_map_or (H.content shelf.old) name.now (Some []) ≡ Some text
         → bytes.items ≡ text) }
     ensures within { IfOk result (λ bytes. length bytes.items ≤ 262144) }
     ensures too_long { result ≡ Err FetchError.TooLong
-        → (text : List ℕ) → text_under name.now (H.content shelf.old) ≡ Some text → 262144 < length text }
+        → (text : List ℕ) → option_map_or (H.content shelf.old) name.now (Some []) ≡ Some text → 262144 < length text }
     ensures unasked { name.now ≡ None → IsOk result × (shelf.new ≡ shelf.old) }
     ensures faultless { OnOk result (H.faults shelf.new ≡ H.faults shelf.old) }
     ensures from { Fetches H.Shelf shelf.old shelf.new (IsErrOf result FetchError.Failed) }
@@ -50,12 +51,12 @@ pub(crate) fn script_of<A: App, H: Shelf>(
     name: &Option<Name>,
 ) -> Result<Script, RunError>
     ensures ok { IfOk result (λ script. (text : List ℕ)
-        → text_under name.now (H.content shelf.old) ≡ Some text
+        → option_map_or (H.content shelf.old) name.now (Some []) ≡ Some text
         → commands_in (A.meaning app.now) text ≡ Ok script) }
     ensures lawful { IfOk result (λ script. MayRun (A.meaning app.now) script) }
     ensures order { IfOk result (λ script. IsTrue (are_in_order script)) }
     ensures refused { IfErr result (λ e. (text : List ℕ)
-        → text_under name.now (H.content shelf.old) ≡ Some text
+        → option_map_or (H.content shelf.old) name.now (Some []) ≡ Some text
         → (commands_in (A.meaning app.now) text ≡ Err e) ⊎ (e ≡ RunError.ReadFault) ⊎ (e ≡ RunError.NoMemory)) }
     ensures early { IfErr result
         (λ e. (status_of e ≡ 2) ⊎ (e ≡ RunError.ReadFault) ⊎ (e ≡ RunError.NoMemory)) }

@@ -27,3 +27,8 @@ module _ {L : Type 0} (g : Ghosts L) (app : Meaning) (keep : Bool) where
     pub each_ends : (k : ℕ) (w : Worker L) (tx : RingTx Batch) → k < length workers → AreEnds (get_or packets k tx) (get_or workers k w).packets
     pub kept : AllKeep g keep workers
     pub each_sent : (k : ℕ) (tx : RingTx Batch) → k < length packets → sent (get_or packets k tx) ≡ []
+
+-- what holds of workers begun for an application holds of them with one over this lane, where that is fresh
+abbrev pub JoinsBegun : {L : Type 0} → Ghosts L → L → List (Worker L) → List (RingTx Batch) → List (Worker L) → List (RingTx Batch) → Type 0
+JoinsBegun g lane workers packets workers_after packets_after = (app : Meaning) (keep : Bool) → IsFresh g app keep lane → AreBegun g app keep workers packets
+    → AreBegun g app keep workers_after packets_after

@@ -22,7 +22,7 @@ use crate::team::worker_place::{WorkerPlace, Works, start_work};
 use control_script::Script;
 use lane_core::Recorder;
 use lane_rings::{BatchTx, CommandTx, FlatBatch};
-use lane_worker::{Gate, Worker, WorkerContext, keep_at_hand};
+use lane_worker::{Gate, Worker, WorkerContext, context_of, keep_at_hand};
 use native_filters::NativeBook;
 use std::alloc::{AllocError, Global};
 use std::collections::VecDeque;
@@ -182,28 +182,6 @@ fn start_all<'s, E: 's, L: Recorder + Drop + Send + 's, D: WorkerRunner<L> + Syn
         });
     }
     inputs
-}
-
-// Makes a context again of its parts. A closure for a scope holds them one by one: what it needs to be handed to a thread is
-// then shown part by part.
-fn context_of<'a, R, G>(
-    rt: &'a R,
-    alloc: Global,
-    script: &'a Script,
-    natives: &'a NativeBook,
-    gate: &'a G,
-    failed: &'a AtomicBool,
-) -> WorkerContext<'a, R, G>
-    ensures script { result.script.now ≡ script.now }
-{
-    WorkerContext {
-        rt,
-        alloc,
-        script,
-        natives,
-        gate,
-        failed,
-    }
 }
 
 // Starts the threads, has the feed send the packets of the capture, and waits for the threads. The feed is handed back.

@@ -2,7 +2,7 @@
 
 ghost use Rattle.std.specs.Prelude.{◌≡◌, ◌+◌, ◌++◌, ◌≤◌, [], ◌∷◌, Bool, true, length, IfOk, OnOk};
 ghost use Rattle.app_api.specs.App.{Meaning};
-ghost use Rattle.worker_pool.specs.Making.{IsFresh, AreBegun};
+ghost use Rattle.worker_pool.specs.Making.{IsFresh, AreBegun, JoinsBegun};
 ghost use Rattle.lane_worker.specs.declared.worker.Worker.{Worker as Begun};
 ghost use Rattle.worker_pool.specs.Team.{IsTeam, AllKeep};
 
@@ -44,9 +44,8 @@ fn enlist_with<L: Recorder + Drop>(
 ) -> Result<(), AllocError>
     requires waiting { 1 ≤ waiting }
     requires places { 1 ≤ places }
-    ensures begun { OnOk result ((app : Meaning) (keep : Bool) → IsFresh L.Recorder app keep lane
-        → AreBegun L.Recorder app keep team.old.workers.items team.old.packets.items
-        → AreBegun L.Recorder app keep team.new.workers.items team.new.packets.items) }
+    ensures begun { OnOk result (JoinsBegun L.Recorder lane team.old.workers.items team.old.packets.items
+        team.new.workers.items team.new.packets.items) }
     ensures added { OnOk result ((w : Begun L) × (w.answers ≡ answers)
         × (team.new.workers.items ≡ team.old.workers.items ++ w ∷ [])) }
     ensures count { OnOk result (length team.new.workers.items ≡ length team.old.workers.items + 1) }
@@ -77,9 +76,8 @@ pub fn enlist<L: Recorder + Drop>(
     used: Option<BatchTx>,
 ) -> Result<(), AllocError>
     requires places { 1 ≤ places }
-    ensures begun { OnOk result ((app : Meaning) (keep : Bool) → IsFresh L.Recorder app keep lane
-        → AreBegun L.Recorder app keep team.old.workers.items team.old.packets.items
-        → AreBegun L.Recorder app keep team.new.workers.items team.new.packets.items) }
+    ensures begun { OnOk result (JoinsBegun L.Recorder lane team.old.workers.items team.old.packets.items
+        team.new.workers.items team.new.packets.items) }
     ensures added { OnOk result ((w : Begun L) × (w.answers ≡ answers)
         × (team.new.workers.items ≡ team.old.workers.items ++ w ∷ [])) }
     ensures count { OnOk result (length team.new.workers.items ≡ length team.old.workers.items + 1) }
@@ -99,9 +97,8 @@ fn enlist_giving_back<L: Recorder + Drop>(
 ) -> Result<(), AllocError>
     requires waiting { 1 ≤ waiting }
     requires places { 1 ≤ places }
-    ensures begun { OnOk result ((app : Meaning) (keep : Bool) → IsFresh L.Recorder app keep lane
-        → AreBegun L.Recorder app keep team.old.workers.items team.old.packets.items
-        → AreBegun L.Recorder app keep team.new.workers.items team.new.packets.items) }
+    ensures begun { OnOk result (JoinsBegun L.Recorder lane team.old.workers.items team.old.packets.items
+        team.new.workers.items team.new.packets.items) }
     ensures count { OnOk result (length team.new.workers.items ≡ length team.old.workers.items + 1) }
 {
     let (used_tx, used_rx) = batch_ring(alloc, waiting.saturating_add(2))?;

@@ -1,6 +1,5 @@
 use Rattle.std.proofs.Common.{None, Some, sym, ap, ◌∙◌}
 use Rattle.run_outcome.specs.Greatest.{greatest, later_of}
-use Rattle.lane_core.specs.Sight.{arrivals}
 use Rattle.lane_join.proofs.Latest.{greatest_push}
 use Rattle.lane_join.proofs.moments.greatest_with.Goals as goal
 

@@ -3,7 +3,7 @@ use Rattle.std.proofs.Common.{◌≡◌, ℕ, Some, Result, Ok, Err, IsOk, OnOk,
 use Rattle.std.specs.Prelude.{◌⊎◌}
 use Rattle.mos_bytes.proofs.Causes.{Rose-earlier}
 use Rattle.mos_bytes.specs.Gathering.{failures_of, gathering_faults, given_to, held_of, inner_of, start_of}
-use Rattle.mos_run.specs.Request.{Request, requested}
+use Rattle.mos_run.specs.Request.{Request, Asked, requested}
 use Rattle.mos_run.specs.Run.{FinishesUnder}
 use Rattle.mos_run.proofs.Below.{done_below, front_below, rose_below}
 use Rattle.mos_run.proofs.Gathering.{handed_by, ran_below, ran_failed, ran_without_memory}
@@ -65,9 +65,9 @@ returns g c =
     record {
       ran = record {
         done = done;
-        alone = λ zero t is.
+        alone = λ zero w file is stamped.
             finishes_alone c.what_one_worker_has_is_allowed.ensures.outcome c.what_one_worker_has_is_allowed.ensures.forwarded c.without_live_commands_all_versions_are_known.ensures app settings
-            (g.H.Shelf.content c.args.shelf.now) (g.S.Source.left c.args.capture.now) t _ _ _ is (done zero t is);
+            (g.H.Shelf.content c.args.shelf.now) (g.S.Source.left c.args.capture.now) w file _ _ _ is (done zero (Asked w file) is) stamped;
         rest = handed_by c.finish-handed.result c.run_chosen-ended.result.status
             (λ same. let stays = after.stays same in rw (stays.0, stays.1) run)
             (λ failed zero.

@@ -3,7 +3,7 @@ use Rattle.std.specs.Prelude.{if◌then◌else◌}
 use Rattle.std.proofs.lemmas.Result.{on_ok_weaker}
 use Rattle.app_api.specs.declared.entry.Entry.{Entry}
 use Rattle.connection_core.specs.declared.ledger.Counts.{Counts}
-use Rattle.connection_core.specs.PacketUnderWay.{first_reason}
+use Rattle.std.specs.Option.{option_or}
 use Rattle.connection_core.specs.Standing.{raise_of}
 use Rattle.connection_core.proofs.Callbacks.{called_under}
 use Rattle.connection_core.proofs.terms.Terms.call.Goals as goal
@@ -25,7 +25,7 @@ returns-clause-stands g c =
           (c.react-reaction.ensures.reaction s force)
           (entries ∙ ap (λ (w : Entry). if c.args.self.now.keep then c.args.notes.now.entries ++ w ∷ [] else c.args.notes.now.entries) c.entry_of.ensures)
           (c.in_ok-ask.ensures.changes ∙ ap (λ v. v.items ++ c.react-reaction.result.changes) c.count.ensures.changes)
-          (c.ask.ensures.drop ∙ ap (λ d. first_reason d c.react-reaction.result.drop) c.count.ensures.drop)
+          (c.ask.ensures.drop ∙ ap (λ d. option_or d c.react-reaction.result.drop) c.count.ensures.drop)
           (ap (λ (n : Counts). n.callbacks) c.ask.ensures.counts ∙ c.count.ensures.callbacks)
           (ap (λ (n : Counts). n.weight) c.ask.ensures.counts ∙ c.count.ensures.weight);
     }) c.keep_entry.ensures.entries

@@ -1,7 +1,4 @@
-use Rattle.std.proofs.Common.{rules, ◌≡◌, ◌<◌, ◌++◌, [], ◌∷◌, length, slice_get, Some, OnOk, OnErr, ℕ, ◌+◌, ◌-◌, ◌*◌, ◌≤◌, ◌/◌, ◌%◌, Bool, true, false, nat_eq, nat_lt, List, slice_index_or, slice_set, bit_and, bit_or, Fits, w8, w32, w64, Bor, MutBor, arith}
-use Rattle.std.proofs.lemmas.Grind.{common_steps}
-use Rattle.std.specs.List.{All}
-use Rattle.lane_rings.specs.Places.{IsWithin, packet_of, lent}
+use Rattle.std.proofs.Common.{rules, ◌≡◌, length, ◌+◌, ◌-◌}
 use Rattle.lane_rings.specs.declared.batch.Place.{Place}
 use Rattle.lane_rings.proofs.Batches.{packets-still, packets-more}
 use Rattle.lane_rings.proofs.batch.FlatBatch.push.Goals as goal
