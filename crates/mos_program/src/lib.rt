@@ -1,5 +1,5 @@
-//! The program `mos` but for its streams: `run_program` makes the book of native filters, calls `run_gathered` over any words,
-//! streams and shelf, and gives the exit code; `run_process` hands it the words of the process and the current folder.
+//! The program `mos` but for its streams: `run_program` makes the book of native filters (`own_natives`), calls `run_gathered` over
+//! any words, streams and shelf, and gives the exit code; `run_process` hands it the words of the process and the current folder.
 //! `run_own_program` and `run_own_process` are the same with an application of one's own.
 //!
 //! Contract: the clauses of `run_gathered`, and the exit code is the status. Words that can't be read end it with status 1 or
@@ -18,10 +18,6 @@ use app_api::App;
 use mos_bytes::{FolderShelf, ReadSource, Shelf, Sink, Source, WriteSink};
 use mos_run::{
     Ended, GatheredRun, Machine, OpenGate, RunError, refuse, run_application, run_gathered,
-};
-use native_filters::{
-    Native, NativeBook, has_differing_bytes, has_system_port, is_ending, is_keep_alive, is_opening,
-    is_private_traffic,
 };
 use std::env::{self, Env};
 use std::io::{self, Read, Write};
@@ -65,16 +61,18 @@ fn finished<O>(run: GatheredRun<O>) -> ProgramRun<O>
     }
 }
 
-// The six native filters. A function can't give them away, since they hold functions by their type.
-macro_rules! natives {
+/// The book of the functions of `native_filters` itself. It is a macro, since a function can't give away functions that it
+/// names itself.
+#[macro_export]
+macro_rules! own_natives {
     () => {
-        NativeBook::new(
-            Native::new(0, is_opening),
-            Native::new(1, has_system_port),
-            Native::new(2, is_private_traffic),
-            Native::new(3, is_keep_alive),
-            Native::new(4, is_ending),
-            Native::new(5, has_differing_bytes),
+        native_filters::NativeBook::new(
+            native_filters::Native::new(0, native_filters::is_opening),
+            native_filters::Native::new(1, native_filters::has_system_port),
+            native_filters::Native::new(2, native_filters::is_private_traffic),
+            native_filters::Native::new(3, native_filters::is_keep_alive),
+            native_filters::Native::new(4, native_filters::is_ending),
+            native_filters::Native::new(5, native_filters::has_differing_bytes),
         )
     };
 }
@@ -109,7 +107,7 @@ pub fn run_program<
         (outside capture.old shelf.old out err.old) (outside capture.new shelf.new result.out err.new) result.ended.status }
 {
     let alloc = rt.alloc();
-    let natives = natives!();
+    let natives = own_natives!();
     match words {
         Ok(words) => finished(run_gathered(
             rt,
@@ -160,7 +158,7 @@ pub fn run_own_program<
         (outside capture.old shelf.old out err.old) (outside capture.new shelf.new result.out err.new) result.ended.status }
 {
     let alloc = rt.alloc();
-    let natives = natives!();
+    let natives = own_natives!();
     let machine = Machine {
         rt,
         alloc,
