@@ -1,11 +1,9 @@
 //! Runs over any source and output, with the functions of the six native filters.
 
 use mos_bytes::{MemShelf, MemSink, MemSource, Sink, Source};
+use mos_program::own_natives;
 use mos_run::{Ended, Gate, GatheredRun, OpenGate, run_gathered, run_mos};
-use native_filters::{
-    Native, NativeBook, has_differing_bytes, has_system_port, is_ending, is_keep_alive, is_opening,
-    is_private_traffic,
-};
+use native_filters::NativeBook;
 use std::alloc::{AllocError, Global};
 use std::process::Abort;
 use std::sync::Wait;
@@ -31,14 +29,7 @@ pub fn in_words<'a>(words: &'a str) -> Asked<'a> {
 }
 
 fn natives() -> NativeBook {
-    NativeBook::new(
-        Native::new(0, is_opening),
-        Native::new(1, has_system_port),
-        Native::new(2, is_private_traffic),
-        Native::new(3, is_keep_alive),
-        Native::new(4, is_ending),
-        Native::new(5, has_differing_bytes),
-    )
+    own_natives!()
 }
 
 fn words_of(alloc: Global, line: &str) -> Result<Vec<String>, AllocError> {
