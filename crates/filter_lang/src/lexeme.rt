@@ -1,6 +1,6 @@
 //! The token at the front of a text.
 
-ghost use Rattle.std.specs.Prelude.{◌≡◌, ◌≤◌, ◌<◌, ◌&&◌, ◌^◌, ◌==◌, slice_index, take, true, false, length, IsTrue, IfSome, MatchOption};
+ghost use Rattle.std.specs.Prelude.{◌≡◌, ◌≤◌, ◌<◌, ◌&&◌, ◌^◌, ◌==◌, slice_index, take, true, false, length, IsTrue, IfSome, MatchOption, get_or, []};
 ghost use Rattle.std.specs.Char.{is_ascii_digit, is_ascii_hexdigit, is_ascii_lowercase};
 ghost use Rattle.std.specs.List.{position_from, prefix_len};
 ghost use Rattle.std.specs.Option.{option_map, unwrap_or};
@@ -123,13 +123,21 @@ pub(crate) const FACTS: [&str; 20] = [
     "old", "new", "fresh", "rexlen", "rexdiff", "fault", "next", "class",
 ];
 
+// The name of the fact at a place.
+fn fact_name(place: usize) -> &'static str
+    requires { place < 20 }
+    ensures { result.now ≡ get_or fact_names place [] }
+{
+    FACTS[place]
+}
+
 // The token of a name that is no word of the grammar.
 fn fact_token(name: &[u8]) -> Token
     ensures { result
         ≡ unwrap_or (option_map FactName (position_from (bytes_eq name.now) 0 fact_names)) UnknownWord }
 {
     for place in 0..FACTS.len() {
-        if is(name, FACTS[place]) {
+        if is(name, fact_name(place)) {
             return Token::FactName(place as u8);
         }
     }

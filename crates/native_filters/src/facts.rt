@@ -116,7 +116,8 @@ impl Facts {
             16 => self.rexdiff,
             17 => self.fault,
             18 => self.next,
-            _ => self.class,
+            19 => self.class,
+            _ => unreachable!(),
         }
     }
 }

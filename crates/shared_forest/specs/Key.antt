@@ -1,4 +1,4 @@
--- Trees as keys: the test for equal trees, and what of a tree its hash reads.
+-- Not of the headline. Trees as keys: the test for equal trees, and what of a tree its hash reads.
 use Rattle.std.specs.Prelude.{ℕ, Bool, true, false, ◌==◌, ◌&&◌, ◌++◌}
 use Rattle.std.specs.Cmp.Lexicographic.{pointwise}
 use Rattle.std.specs.Hash as fed

@@ -1,5 +1,4 @@
-use Rattle.std.proofs.Common.{◌≡◌, ℕ, zero, suc, add-one, ap, ◌+◌, ◌<◌, Bool, List, [], ◌∷◌, length, drop, get_or, false, refl, ◌∙◌, arith}
-use Rattle.std.proofs.lemmas.Grind.{common_steps}
+use Rattle.std.proofs.Common.{◌≡◌, ℕ, zero, suc, add-one, ap, ◌+◌, ◌<◌, Bool, List, [], ◌∷◌, length, drop, get_or, false, refl, sym, ◌∙◌, arith}
 use Rattle.std.specs.List.{position_from}
 use Rattle.std.specs.Str.{bytes_eq}
 use Rattle.filter_lang.specs.Tokens.{fact_names}
@@ -16,6 +15,6 @@ pub loop-place-preserved : goal.loop-place-preserved
 loop-place-preserved c =
     let i = c.loop-place.place in
     let name = c.args.name.now in
-    let other : bytes_eq name (get_or fact_names i []) ≡ false = grind (arith, common_steps) in
+    let other : bytes_eq name (get_or fact_names i []) ≡ false = ap (bytes_eq name) (sym c.fact_name.ensures) ∙ sym c.is.ensures ∙ c.if-is.false in
     ap (λ k. position_from (bytes_eq name) (i + 1) (drop k fact_names)) (add-one i)
     ∙ passes (bytes_eq name) i i fact_names (omega arith) other ∙ c.loop-place.invariant
