@@ -1,2 +1,3 @@
 pub mod Batches
+mod Judged
 mod Windows

@@ -5,13 +5,14 @@ ghost use Rattle.std.specs.List.{All};
 ghost use Rattle.lane_rings.specs.Places.{IsWithin, packet_of, lent};
 
 use crate::items::Packet;
+use app_api::Verdict;
 use pcap_source::Frame;
 use std::alloc::{AllocError, Global};
 use std::marker::Model;
 
-// A packet of a batch but for its bytes, and where these are.
+/// A packet of a batch but for its bytes, and where these are.
 #[derive(Clone, Copy)]
-struct Place {
+pub(crate) struct Place {
     index: u64,
     floor: u32,
     ceil: u32,
@@ -21,14 +22,42 @@ struct Place {
     head: [u8; 16],
     start: usize,
     end: usize,
+    /// What a lane says of the packet; it has no meaning before the packet is answered.
+    pub(crate) verdict: Verdict,
+}
+
+impl Place {
+    /// The place, with what a lane says of its packet.
+    pub(crate) fn answered(self, verdict: Verdict) -> Place
+        ensures { result ≡ record self { verdict = verdict } }
+    {
+        Place { verdict, ..self }
+    }
+
+    /// The packet of the place, whose bytes stand among these.
+    pub(crate) fn lend<'a>(&self, bytes: &'a [u8]) -> LentPacket<'a>
+        requires within { IsWithin (length bytes.now) self.now }
+        ensures { lent result ≡ packet_of bytes.now self.now }
+    {
+        LentPacket {
+            index: self.index,
+            floor: self.floor,
+            ceil: self.ceil,
+            seconds: self.seconds,
+            fraction: self.fraction,
+            original: self.original,
+            head: self.head,
+            bytes: &bytes[self.start..self.end],
+        }
+    }
 }
 
 /// Packets whose bytes stand one behind the other, so that one move takes all of them to a lane. It keeps its memory when it
 /// is cleared. Contracts see the list of the packets.
 #[derive(Drop)]
 pub struct FlatBatch {
-    places: Vec<Place>,
-    bytes: Vec<u8>,
+    pub(crate) places: Vec<Place>,
+    pub(crate) bytes: Vec<u8>,
     ghost within: { All (IsWithin (length bytes.items)) places.items },
 }
 
@@ -129,6 +158,7 @@ impl FlatBatch {
             head: packet.head,
             start,
             end: self.bytes.len(),
+            verdict: Verdict::Pass,
         })?;
         Ok(())
     }
@@ -150,17 +180,7 @@ impl FlatBatch {
         requires below { n < length self.now }
         ensures { slice_get self.now n ≡ Some (lent result) }
     {
-        let place = &self.places[n];
-        LentPacket {
-            index: place.index,
-            floor: place.floor,
-            ceil: place.ceil,
-            seconds: place.seconds,
-            fraction: place.fraction,
-            original: place.original,
-            head: place.head,
-            bytes: &self.bytes[place.start..place.end],
-        }
+        self.places[n].lend(&self.bytes)
     }
 
     /// Takes all packets out of it.

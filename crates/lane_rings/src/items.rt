@@ -1,9 +1,12 @@
 //! What goes through the rings: packets to a lane, places of commands to a lane, and answers from a lane.
 
-ghost use Rattle.std.specs.Prelude.{◌≡◌, ◌≤◌, [], IfOk};
+ghost use Rattle.std.specs.Prelude.{◌≡◌, ◌<◌, ◌≤◌, [], length, slice_get, Some, IfOk};
+ghost use Rattle.lane_rings.specs.Answers.{answers_of};
+ghost use Rattle.lane_rings.specs.Judging.{lent_answer};
 ghost use Rattle.lane_rings.specs.Ring.{sent, free, taken, known, AreEnds};
 
 use crate::batch::FlatBatch;
+use crate::judging::{FlatAnswers, LentAnswer};
 use crate::ring::{RingRx, RingTx, ring};
 use app_api::Verdict;
 use pcap_source::Frame;
@@ -39,6 +42,51 @@ pub struct Answer {
     pub frame: Frame,
 }
 
+/// What a lane sends back at once: the packets that it decided, each with its verdict.
+#[derive(Drop)]
+pub enum AnswerBatch {
+    /// One packet, with a frame of its own.
+    Single(Packet, Verdict),
+    /// Packets whose bytes stand one behind the other.
+    Flat(FlatAnswers),
+}
+
+impl AnswerBatch {
+    /// How many answers it has.
+    pub fn len(&self) -> usize
+        ensures { result ≡ length (answers_of self.now) }
+    {
+        match self {
+            AnswerBatch::Single(..) => 1,
+            AnswerBatch::Flat(answers) => answers.len(),
+        }
+    }
+
+    /// The answer in this place.
+    pub fn answer(&self, n: usize) -> LentAnswer<'_>
+        requires below { n < length (answers_of self.now) }
+        ensures { slice_get (answers_of self.now) n ≡ Some (lent_answer result) }
+    {
+        match self {
+            AnswerBatch::Single(packet, verdict) => LentAnswer {
+                packet: packet.lend(),
+                verdict: *verdict,
+            },
+            AnswerBatch::Flat(answers) => answers.answer(n),
+        }
+    }
+
+    /// Takes all answers out of it, and gives its memory as a batch of no packets, where it has memory for one.
+    pub fn emptied(self, alloc: Global) -> FlatBatch
+        ensures { result ≡ [] }
+    {
+        match self {
+            AnswerBatch::Single(..) => FlatBatch::new(alloc),
+            AnswerBatch::Flat(answers) => answers.emptied(),
+        }
+    }
+}
+
 /// The end of a packet ring that sends: the dispatcher's.
 pub type PacketTx = RingTx<Packet>;
 /// The end of a packet ring that takes: the lane's.
@@ -55,6 +103,10 @@ pub type CommandRx = RingRx<u32>;
 pub type AnswerTx = RingTx<Answer>;
 /// The end of an answer ring that takes: the dispatcher's.
 pub type AnswerRx = RingRx<Answer>;
+/// The end of a ring for batches of answers that sends: the lane's.
+pub type AnswerBatchTx = RingTx<AnswerBatch>;
+/// The end of a ring for batches of answers that takes: the dispatcher's.
+pub type AnswerBatchRx = RingRx<AnswerBatch>;
 
 /// A ring for packets, of `cap` places. It asks at least one.
 pub fn packet_ring(alloc: Global, cap: usize) -> Result<(PacketTx, PacketRx), AllocError>
@@ -88,6 +140,19 @@ pub fn command_ring(alloc: Global, cap: usize) -> Result<(CommandTx, CommandRx),
 
 /// A ring for answers, of `cap` places. It asks at least one.
 pub fn answer_ring(alloc: Global, cap: usize) -> Result<(AnswerTx, AnswerRx), AllocError>
+    requires places { 1 ≤ cap }
+    ensures ends { IfOk result (λ r. AreEnds r.0 r.1) }
+    ensures sent { IfOk result (λ r. (sent r.0 ≡ []) × (free r.0 ≡ cap)) }
+    ensures taken { IfOk result (λ r. (taken r.1 ≡ []) × (known r.1 ≡ [])) }
+{
+    ring(alloc, cap)
+}
+
+/// A ring for batches of answers, of `cap` places. It asks at least one.
+pub fn answer_batch_ring(
+    alloc: Global,
+    cap: usize,
+) -> Result<(AnswerBatchTx, AnswerBatchRx), AllocError>
     requires places { 1 ≤ cap }
     ensures ends { IfOk result (λ r. AreEnds r.0 r.1) }
     ensures sent { IfOk result (λ r. (sent r.0 ≡ []) × (free r.0 ≡ cap)) }

@@ -1,4 +1,5 @@
-use Rattle.std.proofs.Common.{rules, ◌≡◌, length, ◌+◌, ◌-◌}
+use Rattle.std.proofs.Common.{rules, ◌≡◌, length, ◌+◌}
+use Rattle.app_api.specs.declared.reaction.Verdict.TheVariants.{Pass}
 use Rattle.lane_rings.specs.declared.batch.Place.{Place}
 use Rattle.lane_rings.proofs.Batches.{packets-still, packets-more}
 use Rattle.lane_rings.proofs.batch.FlatBatch.push.Goals as goal
@@ -22,6 +23,7 @@ returns-clause-ok c =
       head = packet.head;
       start = c.len-start.result;
       end = c.len.result;
+      verdict = Pass;
     } in
     let start : c.len-start.result ≡ length bytes = search rules in
     let end : c.len.result ≡ length bytes + length packet.bytes.now = search rules in
