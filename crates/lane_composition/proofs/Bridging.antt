@@ -9,7 +9,7 @@ use Rattle.app_api.specs.App.{Meaning}
 use Rattle.forest_versions.specs.declared.command.Command.{Command}
 use Rattle.forest_versions.specs.State.{ControlState}
 use Rattle.lane_core.specs.Sight.{Arrival}
-use Rattle.lane_core.specs.Records.{VersionedPacket, RecordSoFar, added as lane_added, records}
+use Rattle.lane_core.specs.Records.{RecordSoFar, added as lane_added, records}
 use Rattle.lane_core.specs.Versions.{listed, listed_from, versions_in}
 use Rattle.lane_composition.specs.Members.{Members, name_of, added}
 use Rattle.lane_composition.specs.Lanes.{part}
@@ -17,7 +17,7 @@ use Rattle.run_outcome.specs.Lanes.{lane_of}
 use Rattle.lane_composition.specs.Named.{named_by, named_from, named, records_under}
 use Rattle.run_outcome.specs.Rising.{NeverFalls}
 use Rattle.lane_composition.specs.Allowed.{IsAllowed, IsWithin, versions_of}
-use Rattle.lane_composition.specs.Histories.{over_by, over_under, with_history}
+use Rattle.lane_composition.specs.Histories.{over_by, over_under}
 use Rattle.run_outcome.specs.Whole.{in_force, packets_under, run_so_far, IsAllowedRun}
 use Rattle.lane_composition.proofs.Histories.{shown, shown_first, shown_version, same_added, same_records, same_part}
 

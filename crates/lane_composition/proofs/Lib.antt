@@ -22,10 +22,6 @@ mod Dealt
 mod Latest
 mod Answered
 mod Scripts
-mod Ranks
-mod Fronts
-mod Offering
-mod Writing
-mod Exits
+mod Sharing
 mod Listed
-mod Sent
+mod Leaving

@@ -7,7 +7,7 @@ use Rattle.std.proofs.lemmas.Bool.{cases_eq, eq-eqb, ne_eqb}
 use Rattle.lane_rings.specs.declared.items.Answer.{Answer}
 use Rattle.lane_composition.specs.Share.{share}
 use Rattle.lane_composition.specs.Forwarded.{bytes_out, forwarded}
-use Rattle.lane_composition.proofs.Ranks.{share-own, share-other}
+use Rattle.lane_composition.proofs.Sharing.{share-own, share-other}
 
 kept_by : {P : Type 0} (b : Bool) (x : P) (xs more ys : List P) → ys ≡ xs ++ more → (if b then x ∷ ys else ys) ≡ (if b then x ∷ xs else xs) ++ more
 kept_by true x xs more ys e = ap (λ y. x ∷ y) e

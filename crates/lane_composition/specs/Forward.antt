@@ -1,61 +1,26 @@
--- Not of the headline. A forward run while it streams: packets are read in order, each goes to its lane, answers are taken from the lanes as they
--- come, and leave in the order of the capture. What a lane answers is known for sure only when the lane has ended, so the run
--- keeps a fact on whatever the right answers are.
-use Rattle.std.specs.Prelude.{◌≡◌, ◌≤◌, ◌<◌, ℕ, ◌+◌, nat_lt, Bool, true, false, Option, Some, None, List, [], ◌++◌, length, take, map, get_or, if◌then◌else◌}
+-- Not of the headline. A forward run while it streams: packets are read in order, each goes to its lane, and they leave in that order, each by the
+-- next answer of its lane. What a lane answers is known for sure only when the lane has ended, so what is kept holds for whatever
+-- the right answers are.
+use Rattle.std.specs.Prelude.{◌≡◌, ◌≤◌, ℕ, Option, List, length, map}
+use Rattle.std.specs.Io.KnownBytes.{Appends}
+use Rattle.mos_bytes.specs.Writes.{AppendsFront}
 use Rattle.lane_rings.specs.declared.items.Answer.{Answer}
-use Rattle.lane_rings.specs.Waiting.{Waiting, first_of, is_refused, holding, moved_on}
-use Rattle.lane_composition.specs.Share.{share, rank}
-use Rattle.lane_composition.specs.Forwarded.{bytes_out, forwarded}
+use Rattle.lane_composition.specs.Share.{share}
+use Rattle.lane_composition.specs.Forwarded.{forwarded}
 
--- what leaves: the answers that wait, whether one was ever handed back, and what was written
-pub record Leaving : Type 0 where
-  pub waiting : Waiting
-  pub lost : Bool
-  pub out : List ℕ
+-- these are the answers to the first n packets, each lane's in order
+abbrev pub AreOf : (ℕ → ℕ) → (ℕ → Answer) → ℕ → (ℕ → List Answer) → Type 0
+AreOf lane answer n given = (l : ℕ) → given l ≡ map answer (share lane l n)
 
--- nothing has left
-abbrev pub beginning : Waiting → Leaving
-beginning w = record { waiting = w; lost = false; out = [] }
+module _ (lane : ℕ → ℕ) (n : ℕ) (given : ℕ → List Answer) (old new : Option (List ℕ)) where
+  -- the first n packets have left by these answers of their lanes, and what was written is what these let pass
+  pub record HaveLeft : Type 0 where
+    pub counted : (l : ℕ) → length (given l) ≡ length (share lane l n)
+    pub written : (answer : ℕ → Answer) → AreOf lane answer n given → Appends old new (forwarded answer n)
 
--- an answer was offered
-abbrev pub offered : Answer → Leaving → Leaving
-offered a s = if is_refused s.waiting a.index then record s { lost = true } else record s { waiting = holding s.waiting a }
-
--- the bytes of the answer whose turn it is
-abbrev pub bytes_of_first : Option Answer → List ℕ
-bytes_of_first None = []
-bytes_of_first (Some a) = bytes_out a
-
--- the answer whose turn it is left, if it is there
-abbrev pub left_first : Leaving → Leaving
-left_first s = record s { waiting = moved_on s.waiting; out = s.out ++ bytes_of_first (first_of s.waiting) }
-
--- what was taken from each lane are the answers of the lane's first packets, in order; n packets were sent
-abbrev pub AreFronts : (ℕ → ℕ) → (ℕ → Answer) → ℕ → (ℕ → List Answer) → Type 0
-AreFronts lane answer n taken = (l : ℕ) → taken l ≡ take (length (taken l)) (map answer (share lane l n))
-
--- whether a packet's answer was taken
-abbrev pub is_taken : (ℕ → ℕ) → (ℕ → List Answer) → ℕ → Bool
-is_taken lane taken i = nat_lt (rank lane i) (length (taken (lane i)))
-
-abbrev pub answer_of : (ℕ → ℕ) → (ℕ → Answer) → (ℕ → List Answer) → ℕ → Option Answer
-answer_of lane answer taken i = if is_taken lane taken i then Some (answer i) else None
-
--- every answer that was taken has left, with its bytes, or waits in its place; none was handed back
-pub record IsRight (lane : ℕ → ℕ) (answer : ℕ → Answer) (n : ℕ) (taken : ℕ → List Answer) (s : Leaving) : Type 0 where
-  pub behind : s.waiting.next ≤ n
-  pub waits : (d : ℕ) → get_or s.waiting.window d None ≡ answer_of lane answer taken (s.waiting.next + d)
-  pub gone : (i : ℕ) → i < s.waiting.next → is_taken lane taken i ≡ true
-  pub written : s.out ≡ forwarded answer s.waiting.next
-  pub kept : s.lost ≡ false
-
--- an answer bears the number of its packet
-abbrev pub AreIndexed : (ℕ → Answer) → Type 0
-AreIndexed answer = (i : ℕ) → (answer i).index ≡ i
-
--- what a run keeps: no more was taken than sent, no packet is too far above the next one to leave, and for whatever answers are
--- the right ones, all is right
-pub record Keeps (lane : ℕ → ℕ) (n : ℕ) (taken : ℕ → List Answer) (s : Leaving) : Type 0 where
-  pub sent : (l : ℕ) → length (taken l) ≤ length (share lane l n)
-  pub near : n ≤ s.waiting.next + length s.waiting.window
-  pub right : (answer : ℕ → Answer) → AreIndexed answer → AreFronts lane answer n taken → IsRight lane answer n taken s
+  -- some of the first n packets have left so, and the record of the last of them may be cut off
+  pub record HasLeft : Type 0 where
+    pub left : ℕ
+    pub within : left ≤ n
+    pub counted : (l : ℕ) → length (given l) ≡ length (share lane l left)
+    pub front : (answer : ℕ → Answer) → AreOf lane answer left given → AppendsFront old new (forwarded answer left)

@@ -9,7 +9,6 @@ ghost use Rattle.app_api.specs.declared.reaction.Verdict.{Verdict};
 ghost use Rattle.forest_versions.specs.declared.command.Command.{Command};
 ghost use Rattle.lane_composition.specs.Share.{share as numbers_of_share};
 ghost use Rattle.lane_composition.specs.Forwarded.{forwarded as forwarded_numbers};
-ghost use Rattle.lane_composition.specs.Forward.{AreIndexed};
 ghost use Rattle.flow_table.specs.Key.{EndpointPair};
 ghost use Rattle.lane_core.specs.Sight.{Arrival, arrivals};
 ghost use Rattle.lane_core.specs.Run.{LaneEvent};
@@ -23,8 +22,6 @@ ghost use Rattle.lane_composition.specs.Streamed.{answers_to, answer_at, lane_in
 /// answers to the lane's part of the verdicts, and what the first n packets leave by number is what their verdicts
 /// leave.
 pub fn a_lane_answers_its_part()
-    ensures indexed { (frame_of : ℕ → Captured) (js : List (Arrival × Verdict)) (d : Arrival × Verdict)
-        → AreIndexed (answer_at frame_of js d) }
     ensures answers { (frame_of : ℕ → Captured) (lane : EndpointPair → ℕ) (js : List (Arrival × Verdict))
         (d : Arrival × Verdict) (l n : ℕ) → AreNumbered js → n ≤ length js
         → map (answer_at frame_of js d) (numbers_of_share (lane_in lane js d) l n)

@@ -1,9 +1,5 @@
-use Rattle.std.proofs.Common.{refl}
 use Rattle.lane_composition.proofs.Streamed.{streamed_share, streamed_bytes}
 use Rattle.lane_composition.proofs.streaming.a_lane_answers_its_part.Goals as goal
-
-pub returns-clause-indexed : goal.returns-clause-indexed
-returns-clause-indexed c = λ frame_of js d i. refl
 
 pub returns-clause-answers : goal.returns-clause-answers
 returns-clause-answers c = λ frame_of lane js d l n numbered le. streamed_share frame_of js d numbered lane l n le
