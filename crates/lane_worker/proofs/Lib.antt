@@ -7,4 +7,5 @@ mod Taking
 mod Advancing
 mod Turns
 mod Serving
+mod Judging
 pub mod Beside

@@ -3,8 +3,10 @@ use Rattle.std.proofs.Common.{◌≡◌, ◌+◌, ◌≤◌, Option, Some, None,
 use Rattle.std.proofs.lemmas.List.{append-nil, length-append}
 use mathlib.Core.List.{IsPrefix}
 use Rattle.lane_rings.specs.declared.items.Answer.{Answer}
+use Rattle.lane_rings.specs.declared.items.AnswerBatch.{AnswerBatch}
 use Rattle.lane_rings.specs.declared.ring.RingTx.{RingTx}
 use Rattle.lane_rings.specs.declared.ring.RingRx.{RingRx}
+use Rattle.lane_rings.specs.Answers.{answers_in}
 use Rattle.lane_rings.specs.Ring.{sent, taken, known, SameTx, SameRx}
 use Rattle.lane_worker.specs.Worked.{Takes, Sends, SameAnswers}
 use Rattle.lane_worker.proofs.Fronts.{IsPrefix-refl, IsPrefix-trans, IsPrefix-after}
@@ -43,11 +45,11 @@ module _ {T : Type 0} where
   pub taken_more : (a b : RingRx T) (xs : List T) → Takes a b xs → length (taken b) ≡ length (taken a) + length xs
   taken_more a b xs p = ap length p.gone ∙ length-append (taken a) xs
 
-pub SameAnswers-refl : (a : Option (RingTx Answer)) → SameAnswers a a
+pub SameAnswers-refl : (a : Option (RingTx AnswerBatch)) → SameAnswers a a
 SameAnswers-refl None = tt
 SameAnswers-refl (Some a) = SameTx-refl a
 
-pub SameAnswers-trans : (a b c : Option (RingTx Answer)) → SameAnswers a b → SameAnswers b c → SameAnswers a c
+pub SameAnswers-trans : (a b c : Option (RingTx AnswerBatch)) → SameAnswers a b → SameAnswers b c → SameAnswers a c
 SameAnswers-trans None None None p q = tt
 SameAnswers-trans None None (Some c) p q = absurd q
 SameAnswers-trans None (Some b) c p q = absurd p
@@ -55,20 +57,20 @@ SameAnswers-trans (Some a) None c p q = absurd p
 SameAnswers-trans (Some a) (Some b) None p q = absurd q
 SameAnswers-trans (Some a) (Some b) (Some c) p q = SameTx-trans a b c p q
 
-pub sends_none : (a : Option (RingTx Answer)) → Sends a a []
+pub sends_none : (a : Option (RingTx AnswerBatch)) → Sends a a []
 sends_none None = tt
-sends_none (Some a) = (SameTx-refl a, sym (append-nil (sent a)))
+sends_none (Some a) = (SameTx-refl a, sym (append-nil (answers_in (sent a))))
 
-pub sends_then : (a b c : Option (RingTx Answer)) (xs ys : List Answer) → Sends a b xs → Sends b c ys → Sends a c (xs ++ ys)
+pub sends_then : (a b c : Option (RingTx AnswerBatch)) (xs ys : List Answer) → Sends a b xs → Sends b c ys → Sends a c (xs ++ ys)
 sends_then None None None xs ys p q = tt
 sends_then None None (Some c) xs ys p q = absurd q
 sends_then None (Some b) c xs ys p q = absurd p
 sends_then (Some a) None c xs ys p q = absurd p
 sends_then (Some a) (Some b) None xs ys p q = absurd q
 sends_then (Some a) (Some b) (Some c) xs ys p q =
-    (SameTx-trans a b c p.0 q.0, q.1 ∙ ap (λ l. l ++ ys) p.1 ∙ append_assoc (sent a) xs ys)
+    (SameTx-trans a b c p.0 q.0, q.1 ∙ ap (λ l. l ++ ys) p.1 ∙ append_assoc (answers_in (sent a)) xs ys)
 
-pub sends_same : (a b : Option (RingTx Answer)) (xs : List Answer) → Sends a b xs → SameAnswers a b
+pub sends_same : (a b : Option (RingTx AnswerBatch)) (xs : List Answer) → Sends a b xs → SameAnswers a b
 sends_same None None xs p = tt
 sends_same None (Some b) xs p = p
 sends_same (Some a) None xs p = p

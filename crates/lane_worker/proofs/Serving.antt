@@ -7,20 +7,18 @@ use Rattle.app_api.specs.declared.reaction.Verdict.{Verdict}
 use Rattle.forest_versions.specs.declared.command.Command.{Command}
 use Rattle.forest_versions.specs.State.{control}
 use Rattle.lane_rings.specs.declared.items.Packet.{Packet}
-use Rattle.lane_rings.specs.declared.items.Answer.{Answer}
-use Rattle.lane_rings.specs.declared.items.Batch.{Batch}
 use Rattle.lane_rings.specs.declared.ring.RingRx.{RingRx}
-use Rattle.lane_rings.specs.declared.ring.RingTx.{RingTx}
+use Rattle.lane_rings.specs.Judging.{answer_to}
 use Rattle.lane_rings.specs.Ring.{taken, known}
 use Rattle.lane_core.specs.declared.recorder.Recorder.{Ghosts}
 use Rattle.lane_core.specs.declared.errors.LaneError.{LaneError}
 use Rattle.lane_worker.specs.declared.worker.Worker.{Worker}
-use Rattle.lane_worker.specs.Steps.{Handed, fits, events_of, answer_to}
-use Rattle.lane_worker.specs.Worked.{Takes, Sends, IsReady}
+use Rattle.lane_worker.specs.Steps.{Handed, fits, events_of}
+use Rattle.lane_worker.specs.Worked.{Takes, IsReady}
 use Rattle.lane_worker.specs.Given.{IsUnder}
-use Rattle.lane_worker.specs.Turning.{Turned, TookUp}
+use Rattle.lane_worker.specs.Turning.{Turned, Judged}
 use Rattle.lane_worker.proofs.Fronts.{take-two}
-use Rattle.lane_worker.proofs.Rings.{takes_none, taken_more, SameAnswers-refl, sends_none, sends_same}
+use Rattle.lane_worker.proofs.Rings.{takes_none, taken_more}
 use Rattle.lane_worker.proofs.Stepping.{commands-append, given_by}
 
 -- a lane that says that it has not failed
@@ -55,17 +53,17 @@ module _ {L : Type 0} (g : Ghosts L) (script : List Command) where
 
   module _ (a : Worker L) (p : Packet) where
     -- one that doesn't fit is let go
-    pub let_go : g.failed a.lane ≡ None → fits (length script) (g.last a.lane) (g.given a.lane) p ≡ false → TookUp g script a a (p ∷ [])
+    pub let_go : g.failed a.lane ≡ None → fits (length script) (g.last a.lane) (g.given a.lane) p ≡ false → Judged g script a a (p ∷ []) []
     let_go well unfit = record {
       places = [];
       same = refl;
       number = refl;
       took_places = takes_none a.commands;
-      answering = SameAnswers-refl a.answers;
+      unsent = refl;
       app = refl;
       keeps = refl;
       stayed = λ bad. refl;
-      silent = λ bad. sends_none a.answers;
+      silent = λ bad. refl;
       ran = λ ok. record {
         turns = record { packet = p; commands = [] } ∷ [];
         done = [];
@@ -85,23 +83,23 @@ module _ {L : Type 0} (g : Ghosts L) (script : List Command) where
           heavy = λ is. absurd (cc);
         };
         of_places = λ is. refl;
-        answers = λ events s. sends_none a.answers;
+        answers = λ events s. refl;
       };
     }
 
     -- a lane that had failed takes nothing
     pub skipped : (ring : RingRx ℕ) (o : Option ℕ) → IfSome o (λ place. Takes a.commands ring (place ∷ [])) → (o ≡ None → Takes a.commands ring [] × (known ring ≡ [])) → g.failed a.lane ≢ None
-        → TookUp g script a (record a { commands = ring }) (p ∷ [])
+        → Judged g script a (record a { commands = ring }) (p ∷ []) []
     skipped ring (Some place) some none bad = record {
       places = place ∷ [];
       same = refl;
       number = refl;
       took_places = some;
-      answering = SameAnswers-refl a.answers;
+      unsent = refl;
       app = refl;
       keeps = refl;
       stayed = λ is. refl;
-      silent = λ is. sends_none a.answers;
+      silent = λ is. refl;
       ran = λ ok. absurd (bad ok);
     }
     skipped ring None some none bad = record {
@@ -109,25 +107,23 @@ module _ {L : Type 0} (g : Ghosts L) (script : List Command) where
       same = refl;
       number = refl;
       took_places = (none refl).0;
-      answering = SameAnswers-refl a.answers;
+      unsent = refl;
       app = refl;
       keeps = refl;
       stayed = λ is. refl;
-      silent = λ is. sends_none a.answers;
+      silent = λ is. refl;
       ran = λ ok. absurd (bad ok);
     }
 
     -- a packet that fits was handed over, and answered where the lane did
     module _ (lane : L) (ring : RingRx ℕ) (well : g.failed a.lane ≡ None) (app : g.app lane ≡ g.app a.lane) (keeps : g.keeps lane ≡ g.keeps a.lane) where
-      pub answered : (answers : Option (RingTx Answer)) (used : Option (RingTx Batch)) (v : Verdict) → Turned g script a.lane lane a.commands ring p (Ok v)
-          → Sends a.answers answers (answer_to p v ∷ [])
-          → TookUp g script a (record a { lane = lane; commands = ring; answers = answers; used = used }) (p ∷ [])
-      answered answers used v t sends = record {
+      pub answered : (v : Verdict) → Turned g script a.lane lane a.commands ring p (Ok v) → Judged g script a (record a { lane = lane; commands = ring }) (p ∷ []) (answer_to p v ∷ [])
+      answered v t = record {
         places = t.places;
         same = refl;
         number = refl;
         took_places = t.took;
-        answering = sends_same a.answers answers (answer_to p v ∷ []) sends;
+        unsent = refl;
         app = app;
         keeps = keeps;
         stayed = λ bad. absurd (bad well);
@@ -139,21 +135,21 @@ module _ {L : Type 0} (g : Ghosts L) (script : List Command) where
           of_packets = refl;
           went = t.went;
           of_places = t.of_places;
-          answers = λ events s. subst (Sends a.answers answers) (sym (t.answered v refl events s)) sends;
+          answers = λ events s. sym (t.answered v refl events s);
         };
       }
 
-      pub unanswered : (e : LaneError) → Turned g script a.lane lane a.commands ring p (Err e) → TookUp g script a (record a { lane = lane; commands = ring }) (p ∷ [])
+      pub unanswered : (e : LaneError) → Turned g script a.lane lane a.commands ring p (Err e) → Judged g script a (record a { lane = lane; commands = ring }) (p ∷ []) []
       unanswered e t = record {
         places = t.places;
         same = refl;
         number = refl;
         took_places = t.took;
-        answering = SameAnswers-refl a.answers;
+        unsent = refl;
         app = app;
         keeps = keeps;
         stayed = λ bad. absurd (bad well);
-        silent = λ bad. absurd (bad well);
+        silent = λ bad. refl;
         ran = λ ok. record {
           turns = record { packet = p; commands = t.turn } ∷ [];
           done = t.done;
@@ -161,6 +157,6 @@ module _ {L : Type 0} (g : Ghosts L) (script : List Command) where
           of_packets = refl;
           went = t.went;
           of_places = t.of_places;
-          answers = λ events s. subst (Sends a.answers a.answers) (sym (t.silent e refl events s)) (sends_none a.answers);
+          answers = λ events s. sym (t.silent e refl events s);
         };
       }

@@ -4,10 +4,11 @@ use Rattle.std.specs.Prelude.{if◌then◌else◌}
 use Rattle.std.proofs.lemmas.List.{append-nil, length-append, map-append}
 use Rattle.app_api.specs.App.{Meaning}
 use Rattle.forest_versions.specs.declared.command.Command.{Command}
+use Rattle.lane_rings.specs.Judging.{answer_to}
 use Rattle.lane_core.specs.Sight.{arrival_of}
 use Rattle.lane_core.specs.Run.{LaneEvent, Gave, Arrived, commands_of, last_number}
 use Rattle.lane_core.specs.Lane.{with_event, next_verdict}
-use Rattle.lane_worker.specs.Steps.{Step, Took, Handed, Turn, fits, steps_of, event_of, events_of, AreWithin, answer_to, answers_of}
+use Rattle.lane_worker.specs.Steps.{Step, Took, Handed, Turn, fits, steps_of, event_of, events_of, AreWithin, answers_of}
 
 pub commands-append : (xs ys : List LaneEvent) → commands_of (xs ++ ys) ≡ commands_of xs ++ commands_of ys
 commands-append [] ys = refl

@@ -8,6 +8,7 @@ use Rattle.app_api.specs.declared.reaction.Verdict.{Verdict}
 use Rattle.forest_versions.specs.declared.command.Command.{Command}
 use Rattle.lane_rings.specs.declared.items.Packet.{Packet}
 use Rattle.lane_rings.specs.declared.ring.RingRx.{RingRx}
+use Rattle.lane_rings.specs.Judging.{answer_to}
 use Rattle.lane_rings.specs.Ring.{known}
 use Rattle.lane_core.specs.declared.recorder.Recorder.{Ghosts}
 use Rattle.lane_core.specs.declared.errors.LaneError.{LaneError}
@@ -15,7 +16,7 @@ use Rattle.lane_core.specs.declared.errors.LaneError.TheVariants.{Heavy}
 use Rattle.lane_core.specs.Sight.{arrival_of}
 use Rattle.lane_core.specs.Run.{LaneEvent, Gave, Arrived, last_number}
 use Rattle.lane_core.specs.Lane.{IsHeavy, next_verdict, with_event}
-use Rattle.lane_worker.specs.Steps.{Step, Took, Handed, Turn, fits, steps_of, events_of, AreWithin, answer_to}
+use Rattle.lane_worker.specs.Steps.{Step, Took, Handed, Turn, fits, steps_of, events_of, AreWithin}
 use Rattle.lane_worker.specs.Worked.{WentOn}
 use Rattle.lane_worker.specs.Turning.{Advanced, Turned}
 use Rattle.lane_worker.proofs.Fronts.{IsPrefix-refl}

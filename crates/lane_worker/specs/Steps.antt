@@ -1,10 +1,10 @@
 -- Only for proofs. What a worker makes of the packets and places that it takes: the steps of its lane.
 use Rattle.std.specs.Prelude.{ℕ, ◌+◌, ◌≤◌, min, Bool, true, ◌&&◌, if◌then◌else◌, nat_lt, nat_le, Option, Some, None, List, [], ◌∷◌, ◌++◌, length, map, ⊤}
 use Rattle.app_api.specs.App.{Meaning}
-use Rattle.app_api.specs.declared.reaction.Verdict.{Verdict}
 use Rattle.forest_versions.specs.declared.command.Command.{Command}
 use Rattle.lane_rings.specs.declared.items.Packet.{Packet}
 use Rattle.lane_rings.specs.declared.items.Answer.{Answer}
+use Rattle.lane_rings.specs.Judging.{answer_to}
 use Rattle.lane_core.specs.Sight.{arrival_of}
 use Rattle.lane_core.specs.Run.{LaneEvent, Gave, Arrived}
 use Rattle.lane_core.specs.Lane.{next_verdict, with_event}
@@ -59,9 +59,6 @@ abbrev pub AreWithin : ℕ → ℕ → List Step → Type 0
 AreWithin least version [] = ⊤
 AreWithin least version (Took c ∷ steps) = AreWithin least (version + 1) steps
 AreWithin least version (Handed p ∷ steps) = IsWithin least version p × AreWithin least version steps
-
-abbrev pub answer_to : Packet → Verdict → Answer
-answer_to p verdict = record { index = p.index; verdict = verdict; frame = p.frame }
 
 -- the answers to the packets of these steps, one each and in order, where the lane stood for `events` before them
 abbrev pub answers_of : Meaning → List LaneEvent → List Step → List Answer

@@ -5,10 +5,12 @@ use Rattle.forest_versions.specs.declared.command.Command.{Command}
 use Rattle.forest_versions.specs.State.{control}
 use Rattle.lane_rings.specs.declared.items.Packet.{Packet}
 use Rattle.lane_rings.specs.declared.items.Answer.{Answer}
+use Rattle.lane_rings.specs.declared.items.AnswerBatch.{AnswerBatch}
 use Rattle.lane_rings.specs.declared.items.Batch.{Batch}
 use Rattle.lane_rings.specs.declared.ring.RingTx.{RingTx}
 use Rattle.lane_rings.specs.declared.ring.RingRx.{RingRx}
 use Rattle.lane_rings.specs.Batch.{packets_in}
+use Rattle.lane_rings.specs.Answers.{answers_in}
 use Rattle.lane_rings.specs.Ring.{sent, taken, known, SameTx, SameRx}
 use Rattle.lane_core.specs.declared.errors.LaneError.TheVariants.{Heavy}
 use Rattle.lane_core.specs.declared.recorder.Recorder.{Ghosts}
@@ -24,16 +26,16 @@ pub record Takes {T : Type 0} (a b : RingRx T) (items : List T) : Type 0 where
   pub order : IsPrefix (known a) (items ++ known b)
 
 -- the sending end of the same ring, or none as before
-abbrev pub SameAnswers : Option (RingTx Answer) → Option (RingTx Answer) → Type 0
+abbrev pub SameAnswers : Option (RingTx AnswerBatch) → Option (RingTx AnswerBatch) → Type 0
 SameAnswers None None = ⊤
 SameAnswers (Some a) (Some b) = SameTx a b
 SameAnswers None (Some b) = ⊥
 SameAnswers (Some a) None = ⊥
 
--- these answers were sent, where there is a ring for them
-abbrev pub Sends : Option (RingTx Answer) → Option (RingTx Answer) → List Answer → Type 0
+-- these answers were sent in batches, where there is a ring for them
+abbrev pub Sends : Option (RingTx AnswerBatch) → Option (RingTx AnswerBatch) → List Answer → Type 0
 Sends None None answers = ⊤
-Sends (Some a) (Some b) answers = SameTx a b × (sent b ≡ sent a ++ answers)
+Sends (Some a) (Some b) answers = SameTx a b × (answers_in (sent b) ≡ answers_in (sent a) ++ answers)
 Sends None (Some b) answers = ⊥
 Sends (Some a) None answers = ⊥
 
@@ -71,15 +73,19 @@ module _ {L : Type 0} where
       pub heavy : g.failed b ≡ Some Heavy → (events : List LaneEvent) → g.stands a events → IsHeavy (g.app a) (events ++ events_of (done ++ bad))
 
     -- a worker whose lane had not failed handed these packets to it, as far as they fit and until it failed, and gave it a command for
-    -- each of these places
-    pub record Ran (a b : Worker L) (packets : List Packet) (places : List ℕ) : Type 0 where
+    -- each of these places; P holds of the answers to these packets
+    pub record RanSo (a b : Worker L) (packets : List Packet) (places : List ℕ) (P : List Answer → Type 0) : Type 0 where
       pub turns : List Turn
       pub done : List Step
       pub bad : List Step
       pub of_packets : map (λ t. t.packet) turns ≡ packets
       pub went : WentOn (at_hand g a) turns a.lane b.lane done bad
       pub of_places : g.failed b.lane ≡ None → length (commands_of (events_of done)) ≡ length places
-      pub answers : (events : List LaneEvent) → g.stands a.lane events → Sends a.answers b.answers (answers_of (g.app a.lane) events done)
+      pub answers : (events : List LaneEvent) → g.stands a.lane events → P (answers_of (g.app a.lane) events done)
+
+    -- the same, where the answers were sent
+    abbrev pub Ran : Worker L → Worker L → List Packet → List ℕ → Type 0
+    Ran a b packets places = RanSo a b packets places (Sends a.answers b.answers)
 
     -- what a worker did from a to b: it took these batches and places out of its rings. A lane that had failed stays as it was, and no
     -- answer is sent; any other ran

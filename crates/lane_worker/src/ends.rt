@@ -1,15 +1,14 @@
 //! Ends of rings: what was taken and sent.
 
 ghost use Rattle.std.specs.Prelude.{◌≡◌, ◌++◌, [], ◌∷◌, None, IfSome};
+ghost use Rattle.lane_rings.specs.Answers.{answers_of, answers_in};
+ghost use Rattle.lane_rings.specs.Judging.{answer_to};
 ghost use Rattle.lane_rings.specs.Ring.{sent, known, SameTx};
-ghost use Rattle.lane_rings.specs.Places.{lent};
-ghost use Rattle.lane_worker.specs.Steps.{answer_to};
 ghost use Rattle.lane_worker.specs.Worked.{Takes, Sends};
 
 use crate::backoff::Backoff;
 use app_api::Verdict;
-use lane_rings::{Answer, AnswerTx, Batch, BatchTx, LentPacket, Packet, RingRx};
-use std::alloc::Global;
+use lane_rings::{AnswerBatch, AnswerBatchTx, Batch, BatchTx, FlatAnswers, Packet, RingRx};
 use std::sync::Wait;
 
 /// Takes the oldest item of a ring; none where it shows none.
@@ -20,17 +19,17 @@ pub(crate) fn take_from<T: Drop>(ring: &mut RingRx<T>) -> Option<T>
     ring.take()
 }
 
-// Sends an answer, and waits where the ring is full.
-fn send_waiting<R: Wait>(rt: &R, tx: &mut AnswerTx, answer: Answer)
+// Sends a batch of answers, and waits where the ring is full.
+fn send_waiting<R: Wait>(rt: &R, tx: &mut AnswerBatchTx, batch: AnswerBatch)
     ensures ring { SameTx tx.old tx.new }
-    ensures sent { sent tx.new ≡ sent tx.old ++ answer ∷ [] }
+    ensures sent { answers_in (sent tx.new) ≡ answers_in (sent tx.old) ++ answers_of batch }
 {
-    let mut answer = answer;
+    let mut batch = batch;
     let mut backoff = Backoff::eager();
     for _ in rt.forever() {
-        match tx.send(answer) {
+        match tx.send(batch) {
             Ok(()) => return,
-            Err(back) => answer = back,
+            Err(back) => batch = back,
         }
         backoff.pause(rt);
     }
@@ -41,7 +40,7 @@ fn send_waiting<R: Wait>(rt: &R, tx: &mut AnswerTx, answer: Answer)
 /// the packet goes back through `used`.
 pub(crate) fn send_answer<R: Wait>(
     rt: &R,
-    answers: &mut Option<AnswerTx>,
+    answers: &mut Option<AnswerBatchTx>,
     used: &mut Option<BatchTx>,
     packet: Packet,
     verdict: Verdict,
@@ -52,53 +51,32 @@ pub(crate) fn send_answer<R: Wait>(
         give_back(used, Batch::Single(packet));
         return;
     };
-    let answer = Answer {
-        index: packet.index,
-        verdict,
-        frame: packet.frame,
-    };
-    send_waiting(rt, tx, answer);
+    send_waiting(rt, tx, AnswerBatch::Single(packet, verdict));
 }
 
-// A packet of its own that is the same. Where memory for it is refused, it waits.
-fn own_packet<R: Wait>(rt: &R, alloc: Global, packet: &LentPacket<'_>) -> Packet
-    ensures { result ≡ lent packet.now }
-{
-    let mut backoff = Backoff::eager();
-    for _ in rt.forever() {
-        if let Ok(own) = packet.to_packet(alloc) {
-            return own;
-        }
-        backoff.pause(rt);
-    }
-    unreachable!()
-}
-
-/// Sends what a lane says of a packet of a flat batch where there is a ring for it, with a copy of its frame. It waits
-/// where the ring is full, and where memory is refused.
-pub(crate) fn send_copy<R: Wait>(
+/// Sends what a lane says of the packets of a batch where there is a ring for it, and waits where that is full. Where there
+/// is none, or no answer, the batch goes back through `used`.
+pub(crate) fn send_answers<R: Wait>(
     rt: &R,
-    alloc: Global,
-    answers: &mut Option<AnswerTx>,
-    packet: &LentPacket<'_>,
-    verdict: Verdict,
+    answers: &mut Option<AnswerBatchTx>,
+    used: &mut Option<BatchTx>,
+    batch: FlatAnswers,
 )
-    ensures { Sends answers.old answers.new (answer_to (lent packet.now) verdict ∷ []) }
+    ensures { Sends answers.old answers.new batch }
 {
     let Some(tx) = answers else {
+        give_back(used, Batch::Flat(batch.emptied()));
         return;
     };
-    let Packet { index, frame, .. } = own_packet(rt, alloc, packet);
-    let answer = Answer {
-        index,
-        verdict,
-        frame,
-    };
-    send_waiting(rt, tx, answer);
+    if batch.len() == 0 {
+        give_back(used, Batch::Flat(batch.emptied()));
+        return;
+    }
+    send_waiting(rt, tx, AnswerBatch::Flat(batch));
 }
 
-/// Gives a batch back through the ring for it. Without one, or where it is full, the batch is let go.
-pub(crate) fn give_back(used: &mut Option<BatchTx>, batch: Batch) {
+// Gives a batch back through the ring for it. Without one, or where it is full, the batch is let go.
+fn give_back(used: &mut Option<BatchTx>, batch: Batch) {
     if let Some(tx) = used {
         let _ = tx.send(batch);
     }

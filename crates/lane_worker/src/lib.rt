@@ -1,9 +1,10 @@
 //! A worker: a lane with its ends of the rings by which other threads reach it, and its work. It is generic in the lane
 //! (`Recorder`). No thread is started here.
 //!
-//! `work` takes a packet out of its ring, takes the places in the script that it needs (`src/places.rt`), hands it to the lane
-//! (`src/turn.rt`) and sends it on with the verdict, or back for its memory (`src/ends.rt`). `work_off` does the same in place
-//! with what is left in a ring once its thread has ended. A thread that waits spins at first, and then sleeps for longer and
+//! `work` takes a batch of packets out of its ring. For each packet it takes the places in the script that it needs
+//! (`src/places.rt`), and hands it to the lane (`src/turn.rt`). The batch then goes on with the verdicts, or back for its memory
+//! (`src/ends.rt`); no memory is taken for either. `work_off` does the same in place with what is left in a ring once its thread
+//! has ended. A thread that waits spins at first, and then sleeps for longer and
 //! longer (`src/backoff.rt`). One that works keeps memory at hand (`src/at_hand.rt`). How a lane takes the commands of a script
 //! is one law for all runs, also for one without rings (`src/commands.rt`).
 //! Contract: one relation between the worker handed in and the one handed back, which composes: what two calls did is what one

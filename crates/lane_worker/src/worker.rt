@@ -1,26 +1,29 @@
 //! A worker and its work.
 
-ghost use Rattle.std.specs.Prelude.{◌≡◌, ◌≤◌, [], ◌∷◌, length, IsTrue, IfSome, None, true, false};
+ghost use Rattle.std.specs.Prelude.{◌≡◌, ◌≤◌, [], ◌∷◌, length, IsTrue, None, true, false};
 ghost use Rattle.forest_versions.specs.Lawful.{are_lawful};
 ghost use Rattle.forest_versions.specs.State.{start};
 ghost use Rattle.control_script.specs.Order.{commands_of};
 ghost use Rattle.lane_rings.specs.Batch.{packets_of};
+ghost use Rattle.lane_rings.specs.Judging.{answers_to};
 ghost use Rattle.lane_rings.specs.Places.{lent};
 ghost use Rattle.lane_rings.specs.Ring.{known};
 ghost use Rattle.lane_worker.specs.Steps.{fits};
 ghost use Rattle.lane_worker.specs.Worked.{MayWork, IsReady, Worked};
-ghost use Rattle.lane_worker.specs.Turning.{Decided, TookUp};
+ghost use Rattle.lane_worker.specs.Turning.{TookUp, Judged};
 
 use crate::at_hand::keep_at_hand;
 use crate::backoff::Backoff;
 use crate::context::{WorkerContext, context_of};
-use crate::ends::{give_back, send_answer, send_copy, take_from};
+use crate::ends::{send_answer, send_answers, take_from};
 use crate::gate::Gate;
 use crate::turn::{hand_over, is_fit};
 use app_api::Verdict;
 use control_script::Script;
 use lane_core::Recorder;
-use lane_rings::{AnswerTx, Batch, BatchRx, BatchTx, CommandRx, FlatBatch, LentPacket, Packet};
+use lane_rings::{
+    AnswerBatchTx, Batch, BatchRx, BatchTx, CommandRx, FlatAnswers, FlatBatch, LentPacket, Packet,
+};
 use native_filters::NativeBook;
 use std::alloc::Global;
 use std::sync::Wait;
@@ -29,8 +32,11 @@ use std::sync::atomic::{AtomicBool, Ordering};
 /// After about so many packets a worker keeps memory at hand anew: what it had may be used up.
 const PACKETS_AT_HAND: u32 = 4096;
 
-/// About so many packets a turn has: all of a batch. Where answers are waited for, each packet is a batch of its own.
+/// About so many packets a turn has: all of a batch.
 const PACKETS_IN_TURN: u32 = 64;
+
+/// After so many turns a worker keeps memory at hand anew.
+const TURNS_AT_HAND: u32 = PACKETS_AT_HAND / PACKETS_IN_TURN;
 
 /// What one thread owns: a lane, and its ends of the rings.
 #[derive(Drop)]
@@ -42,8 +48,8 @@ pub struct Worker<L: Recorder + Drop> {
     pub packets: BatchRx,
     /// Places in the script: for each, the lane may take the script's next command.
     pub commands: CommandRx,
-    /// Where the lane's verdicts go; none where nobody waits for them.
-    pub answers: Option<AnswerTx>,
+    /// Where the lane's verdicts go, each batch with those of its packets; none where nobody waits for them.
+    pub answers: Option<AnswerBatchTx>,
     /// Where batches go back that no answer takes along, so that their memory serves again; none where they are let go.
     pub used: Option<BatchTx>,
 }
@@ -53,8 +59,11 @@ pub struct Worker<L: Recorder + Drop> {
 /// It takes the batches of its ring, and the packets of each in order. For one that fits it takes places from the
 /// command ring until the lane's version is at least the packet's floor, and then those that the ring shows, up to
 /// the packet's ceiling; the lane takes one command of the script for each. Then the lane takes the packet, and with
-/// an answer ring its verdict is sent. A packet that doesn't fit is let go. Where the lane fails, `failed` is raised,
-/// and from then on packets and places are taken unread and no answer is sent.
+/// an answer ring its verdict is sent: the batch goes back with the verdicts of its packets, once all are decided. A packet
+/// that doesn't fit is let go. Where the lane fails, `failed` is raised, and from then on packets and places are taken unread
+/// and no verdict is given.
+///
+/// For batches and answers it takes no memory: a worker that waited for memory would hang.
 ///
 /// It may be called again with the worker that it answers. It waits for packets, for places and for room in the answer
 /// ring.
@@ -92,10 +101,9 @@ pub fn work_in<R: Wait, L: Recorder + Drop, G: Gate>(
 {
     let mut w = w;
     let mut backoff = backoff_of(&w);
-    let between = turns_at_hand(&w);
     let mut turns: u32 = 0;
     for _ in context.rt.forever() {
-        if turns % between == 0 {
+        if turns % TURNS_AT_HAND == 0 {
             keep_at_hand(context.alloc);
         }
         turns = turns.wrapping_add(1);
@@ -107,17 +115,6 @@ pub fn work_in<R: Wait, L: Recorder + Drop, G: Gate>(
         backoff.looked(context.rt, found);
     }
     unreachable!()
-}
-
-// After how many turns a worker keeps memory at hand anew.
-fn turns_at_hand<L: Recorder + Drop>(w: &Worker<L>) -> u32
-    ensures some { 1 ≤ result }
-{
-    if w.answers.is_some() {
-        PACKETS_AT_HAND
-    } else {
-        PACKETS_AT_HAND / PACKETS_IN_TURN
-    }
 }
 
 // How a worker waits for packets. Where its answers are waited for, it stays awake for longer.
@@ -150,7 +147,7 @@ pub fn take_turn<R: Wait, L: Recorder + Drop, G: Gate>(
     }
 }
 
-// Makes of the packets of a batch what the lane can. A flat one goes back then.
+// Makes of the packets of a batch what the lane can. The batch goes along with the answers, or back.
 fn take_batch<R: Wait, L: Recorder + Drop, G: Gate>(
     context: &WorkerContext<'_, R, G>,
     w: &mut Worker<L>,
@@ -163,10 +160,7 @@ fn take_batch<R: Wait, L: Recorder + Drop, G: Gate>(
 {
     match batch {
         Batch::Single(packet) => take_single(context, w, packet),
-        Batch::Flat(batch) => {
-            take_flat(context, w, &batch);
-            give_back(&mut w.used, Batch::Flat(batch));
-        }
+        Batch::Flat(batch) => take_flat(context, w, batch),
     }
 }
 
@@ -186,36 +180,38 @@ fn take_single<R: Wait, L: Recorder + Drop, G: Gate>(
     }
 }
 
-// Makes of each packet of a flat batch what the lane can.
+// Makes of the packets of a flat batch what the lane can.
 fn take_flat<R: Wait, L: Recorder + Drop, G: Gate>(
     context: &WorkerContext<'_, R, G>,
     w: &mut Worker<L>,
-    batch: &FlatBatch,
+    batch: FlatBatch,
 )
     requires ready { MayWork L.Recorder (commands_of context.now.script.now) w.old }
     requires lawful { IsTrue (are_lawful (start (L.app w.old.lane).presets) (commands_of context.now.script.now)) }
-    ensures taken_up { TookUp L.Recorder (commands_of context.now.script.now) w.old w.new batch.now }
+    ensures taken_up { TookUp L.Recorder (commands_of context.now.script.now) w.old w.new batch }
     ensures ready { MayWork L.Recorder (commands_of context.now.script.now) w.new }
 {
-    for n in 0..batch.len() {
-        take_lent(context, w, &batch.packet(n));
-    }
+    let answers = judge_batch(context, w, batch);
+    send_answers(context.rt, &mut w.answers, &mut w.used, answers);
 }
 
-// Makes of a packet that is lent what the lane can.
-fn take_lent<R: Wait, L: Recorder + Drop, G: Gate>(
+// Has the lane decide the packets of a flat batch, as far as it can. The answers have to be sent.
+fn judge_batch<R: Wait, L: Recorder + Drop, G: Gate>(
     context: &WorkerContext<'_, R, G>,
     w: &mut Worker<L>,
-    packet: &LentPacket<'_>,
-)
+    batch: FlatBatch,
+) -> FlatAnswers
     requires ready { MayWork L.Recorder (commands_of context.now.script.now) w.old }
     requires lawful { IsTrue (are_lawful (start (L.app w.old.lane).presets) (commands_of context.now.script.now)) }
-    ensures taken_up { TookUp L.Recorder (commands_of context.now.script.now) w.old w.new (lent packet.now ∷ []) }
+    ensures judged { Judged L.Recorder (commands_of context.now.script.now) w.old w.new batch result }
     ensures ready { MayWork L.Recorder (commands_of context.now.script.now) w.new }
 {
-    if let Some(verdict) = take_up(context, w, packet) {
-        send_copy(context.rt, context.alloc, &mut w.answers, packet, verdict);
+    let mut judging = batch.judge();
+    while !judging.is_done() {
+        let verdict = take_up(context, w, &judging.packet());
+        judging.take(verdict);
     }
+    judging.finish()
 }
 
 // Makes of a packet what the lane can. A verdict is that of the lane, and has to be sent.
@@ -226,10 +222,8 @@ fn take_up<R: Wait, L: Recorder + Drop, G: Gate>(
 ) -> Option<Verdict>
     requires ready { MayWork L.Recorder (commands_of context.now.script.now) w.old }
     requires lawful { IsTrue (are_lawful (start (L.app w.old.lane).presets) (commands_of context.now.script.now)) }
-    ensures decided { IfSome result
-        (Decided L.Recorder (commands_of context.now.script.now) w.old w.new (lent packet.now)) }
-    ensures undecided { result ≡ None
-        → TookUp L.Recorder (commands_of context.now.script.now) w.old w.new (lent packet.now ∷ []) }
+    ensures judged { Judged L.Recorder (commands_of context.now.script.now) w.old w.new
+        (lent packet.now ∷ []) (answers_to (lent packet.now) result) }
     ensures ready { MayWork L.Recorder (commands_of context.now.script.now) w.new }
 {
     if w.lane.has_failed() {
@@ -254,10 +248,8 @@ fn decide_packet<R: Wait, L: Recorder + Drop, G: Gate>(
     requires fits { fits (length (commands_of context.now.script.now)) (L.last w.old.lane) (L.given w.old.lane)
         (lent packet.now) ≡ true }
     requires few { packet.now.ceil ≤ 4096 }
-    ensures decided { IfSome result
-        (Decided L.Recorder (commands_of context.now.script.now) w.old w.new (lent packet.now)) }
-    ensures undecided { result ≡ None
-        → TookUp L.Recorder (commands_of context.now.script.now) w.old w.new (lent packet.now ∷ []) }
+    ensures judged { Judged L.Recorder (commands_of context.now.script.now) w.old w.new
+        (lent packet.now ∷ []) (answers_to (lent packet.now) result) }
     ensures ready { MayWork L.Recorder (commands_of context.now.script.now) w.new }
 {
     context.gate.pause(w.number, packet.index);
