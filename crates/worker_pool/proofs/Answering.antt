@@ -10,12 +10,13 @@ use Rattle.pcap_source.specs.Captured.{Captured}
 use Rattle.control_script.specs.declared.stamped.Stamped.{Stamped}
 use Rattle.lane_rings.specs.declared.items.Packet.{Packet}
 use Rattle.lane_rings.specs.declared.items.Answer.{Answer}
+use Rattle.lane_rings.specs.Judging.{answer_to}
 use Rattle.lane_core.specs.Sight.{arrival_of}
 use Rattle.lane_core.specs.Run.{LaneEvent, Gave, Arrived}
 use Rattle.lane_core.specs.Lane.{next_verdict, with_event}
 use Rattle.lane_composition.specs.Taken.{verdicts_behind}
 use Rattle.lane_composition.specs.Streamed.{answers_to}
-use Rattle.lane_worker.specs.Steps.{Step, Took, Handed, events_of, answers_of, answer_to}
+use Rattle.lane_worker.specs.Steps.{Step, Took, Handed, events_of, answers_of}
 use Rattle.worker_pool.specs.Sent.{sent_as, packets_from, lane_of, dealt}
 use Rattle.worker_pool.specs.Answered.{TellsFrames}
 use Rattle.worker_pool.proofs.Handing.{handed}

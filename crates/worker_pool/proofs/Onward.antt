@@ -1,6 +1,6 @@
 -- A capture whose packets are dealt to the lanes: one packet more, and where it stops.
-use Rattle.std.proofs.Common.{◌≡◌, ℕ, ◌+◌, ◌≤◌, Option, Some, None, List, [], ◌∷◌, ◌++◌, length, get_or, set, ◌<◌, Result, Ok, Err, refl, sym, ap, subst, ◌∙◌, inl, inr, arith, append_assoc, append-nil, length-append}
-use Rattle.std.specs.Prelude.{◌⊎◌, IsTrue, OnOk, OnErr}
+use Rattle.std.proofs.Common.{◌≡◌, ℕ, ◌+◌, ◌≤◌, Option, Some, None, List, [], ◌∷◌, ◌++◌, length, get_or, set, ◌<◌, Ok, Err, refl, sym, ap, subst, ◌∙◌, inl, inr, arith, append_assoc, append-nil, length-append}
+use Rattle.std.specs.Prelude.{◌⊎◌, IsTrue}
 use Rattle.mos_bytes.specs.Reads.{BeginsWith}
 use Rattle.pcap_source.specs.Captured.{Captured}
 use Rattle.pcap_source.specs.Capture.{with_frame}
@@ -22,7 +22,7 @@ use Rattle.worker_pool.specs.GoesOn.{IsReadTo, behind}
 use Rattle.worker_pool.specs.Inputs.{IsInput, AreInputs, Dealt, ReadsAs}
 use Rattle.worker_pool.specs.Sent.{sent_as, lane_of}
 use Rattle.worker_pool.specs.Onward.{DealState, deal_at, Deals, DealsOn, DealsSome, MayDeal, WereDealt}
-use Rattle.worker_pool.proofs.Inputs.{was_sent, same_inputs}
+use Rattle.worker_pool.proofs.Inputs.{was_sent}
 use Rattle.worker_pool.proofs.Walking.{passed_behind}
 
 -- ---- what is read
@@ -59,22 +59,13 @@ module _ {L : Type 0} (g : Ghosts L) (script : List Stamped) where
   -- ---- one input
 
   -- a packet was given to one: that of a frame
-  pub frame_dealt : {T E : Type 0} (r : Result T E) (packet : Packet) (inputs : List (LaneInput L)) (lane : ℕ) (d input : LaneInput L) → lane ≡ lane_of (length inputs) packet → lane < length inputs
-      → d ≡ get_or inputs lane d
-      → OnOk r ((begin : Worker L) (packets : List Packet) → IsInput g (commands_of script) begin packets d → IsInput g (commands_of script) begin (packets ++ packet ∷ []) input)
-      → OnOk r ((frame : Captured) → packet ≡ sent_as script packet.index frame → Deals g script packet.index (frame ∷ []) inputs (set inputs lane input))
-  frame_dealt (Ok value) packet inputs lane d input own below at given = λ frame is begins frames count are.
+  pub frame_dealt : (packet : Packet) (inputs : List (LaneInput L)) (lane : ℕ) (d input : LaneInput L) → lane ≡ lane_of (length inputs) packet → lane < length inputs → d ≡ get_or inputs lane d
+      → ((begin : Worker L) (packets : List Packet) → IsInput g (commands_of script) begin packets d → IsInput g (commands_of script) begin (packets ++ packet ∷ []) input)
+      → (frame : Captured) → packet ≡ sent_as script packet.index frame → Deals g script packet.index (frame ∷ []) inputs (set inputs lane input)
+  frame_dealt packet inputs lane d input own below at given frame is begins frames count are =
       was_sent g script begins frames frame packet.index count inputs are lane d input (own ∙ ap (lane_of (length inputs)) is) below
       (λ begin packets p. subst (λ (q : Packet). IsInput g (commands_of script) begin (packets ++ q ∷ []) input) is
       (given begin packets (subst (λ (i : LaneInput L). IsInput g (commands_of script) begin packets i) (sym at) p)))
-  frame_dealt (Err error) packet inputs lane d input own below at given = tt
-
-  -- none was
-  pub none_dealt : {T E : Type 0} (r : Result T E) (inputs : List (LaneInput L)) (lane : ℕ) (d input : LaneInput L) → lane < length inputs → d ≡ get_or inputs lane d
-      → OnErr r ((begin : Worker L) (packets : List Packet) → IsInput g (commands_of script) begin packets d → IsInput g (commands_of script) begin packets input)
-      → OnErr r ((begins : List (Worker L)) (frames : List Captured) → AreInputs g script begins frames inputs → AreInputs g script begins frames (set inputs lane input))
-  none_dealt (Ok value) inputs lane d input below at kept = tt
-  none_dealt (Err error) inputs lane d input below at kept = λ begins frames are. same_inputs g script begins frames inputs lane d input below at kept are
 
 module _ {L : Type 0} {g : Ghosts L} {script : List Stamped} where
   -- ---- it goes on

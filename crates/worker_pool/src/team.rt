@@ -34,7 +34,7 @@ use std::thread::{JoinHandle, Scope, Threads};
 
 mod context;
 mod control;
-mod dealing;
+pub mod dealing;
 pub mod dispatch;
 pub mod ends;
 pub mod feed;

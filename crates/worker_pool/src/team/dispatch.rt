@@ -1,21 +1,20 @@
 //! Reads a capture, and sends each packet to its lane.
 
-ghost use Rattle.std.specs.Prelude.{◌≡◌, ◌<◌, ◌≤◌, ◌++◌, [], ◌∷◌, List, length, IsOk, IsErrOf, false};
+ghost use Rattle.std.specs.Prelude.{◌≡◌, ◌≤◌, [], List, length, IsOk, IsErrOf, false};
 ghost use Rattle.pcap_source.specs.Captured.{Captured};
 ghost use Rattle.pcap_source.specs.Reading.{Opened};
-ghost use Rattle.ip6_views.specs.Sight.{sight_of, lane_of_sight};
 ghost use Rattle.lane_worker.specs.declared.worker.Worker.{Worker as Begun};
 ghost use Rattle.worker_pool.specs.Inputs.{AreInputs, Dealt, ReadsAs};
 ghost use Rattle.worker_pool.specs.Source.{ReadsOn};
 
 use crate::team::dealing::deal_frame;
 use crate::team::in_place::deal_lent;
-use crate::team::lane_input::{LaneInput, flush_all, send_to};
+use crate::team::lane_input::{LaneInput, flush_all};
 use crate::team::progress::Progress;
 use flow_timers::Moment;
 use lane_core::Recorder;
 use lane_join::moment_of;
-use lane_rings::{BatchRx, Packet};
+use lane_rings::BatchRx;
 use lane_worker::{Gate, WorkerContext};
 use mos_bytes::Source;
 use pcap_source::{Capture, Frame, NextError, Step};
@@ -30,44 +29,6 @@ pub struct Whole {
     pub tail: u32,
     /// The greatest moment of its packets, of whatever class; none where it has no packet.
     pub last: Option<Moment>,
-}
-
-// The lane of a packet: that of its key, as `flow_table` has it. What has no key goes to lane 0.
-fn lane_of_frame(frame: &Frame, lanes: usize) -> usize
-    requires some { 1 ≤ lanes }
-    ensures lane { result ≡ lane_of_sight (sight_of frame.now.bytes) lanes }
-    ensures within { result < lanes }
-{
-    ip6_views::lane_of_frame(&frame.bytes, lanes)
-}
-
-/// Sends the next frame of a capture, of which so many were sent, to the input of its lane, and answers the lane. It waits
-/// where the ring of the lane is full, and works on a lane whose worker is in this thread.
-pub fn send_frame<R: Wait, L: Recorder + Drop, G: Gate>(
-    context: &WorkerContext<'_, R, G>,
-    inputs: &mut Vec<LaneInput<L>>,
-    index: u64,
-    frame: Frame,
-) -> usize
-    requires some { 1 ≤ length inputs.old.items }
-    requires inputs { (begins : List (Begun L)) × (frames : List Captured)
-        × AreInputs L.Recorder context.now.script.now begins frames inputs.old.items }
-    ensures lane { result ≡ lane_of_sight (sight_of frame.bytes) (length inputs.old.items) }
-    ensures within { result < length inputs.old.items }
-    ensures count { length inputs.new.items ≡ length inputs.old.items }
-    ensures sent { (begins : List (Begun L)) (frames : List Captured) → length frames ≡ index
-        → AreInputs L.Recorder context.now.script.now begins frames inputs.old.items
-        → AreInputs L.Recorder context.now.script.now begins (frames ++ frame ∷ []) inputs.new.items }
-{
-    let lane = lane_of_frame(&frame, inputs.len());
-    let packet = Packet {
-        index,
-        floor: context.script.floor(index),
-        ceil: context.script.ceil(index),
-        frame,
-    };
-    send_to(context, &mut inputs[lane], packet);
-    lane
 }
 
 // Sends what is unsent for each lane where more may have to be read, so that nothing waits for what comes later.

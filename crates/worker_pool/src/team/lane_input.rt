@@ -229,7 +229,7 @@ pub(crate) fn deal_to<R: Wait, L: Recorder + Drop, G: Gate>(
 }
 
 /// Sends what is unsent for each lane, as `flush` does.
-pub(crate) fn flush_all<R: Wait, L: Recorder + Drop, G: Gate>(
+pub fn flush_all<R: Wait, L: Recorder + Drop, G: Gate>(
     context: &WorkerContext<'_, R, G>,
     inputs: &mut Vec<LaneInput<L>>,
     used: &mut [BatchRx],

@@ -11,7 +11,7 @@ use crate::team::Team;
 use crate::team::lane_input::PACKETS_IN_BATCH;
 use app_api::App;
 use lane_core::{Lane, Recorder};
-use lane_rings::{AnswerTx, BatchRx, BatchTx, batch_ring, command_ring};
+use lane_rings::{AnswerBatchTx, BatchRx, BatchTx, batch_ring, command_ring};
 use lane_worker::Worker;
 use shared_forest::{ForestStore, StoreUser};
 use std::alloc::{AllocError, Global};
@@ -39,7 +39,7 @@ fn enlist_with<L: Recorder + Drop>(
     lane: L,
     waiting: usize,
     places: usize,
-    answers: Option<AnswerTx>,
+    answers: Option<AnswerBatchTx>,
     used: Option<BatchTx>,
 ) -> Result<(), AllocError>
     requires waiting { 1 ≤ waiting }
@@ -72,7 +72,7 @@ pub fn enlist<L: Recorder + Drop>(
     team: &mut Team<L>,
     lane: L,
     places: usize,
-    answers: Option<AnswerTx>,
+    answers: Option<AnswerBatchTx>,
     used: Option<BatchTx>,
 ) -> Result<(), AllocError>
     requires places { 1 ≤ places }

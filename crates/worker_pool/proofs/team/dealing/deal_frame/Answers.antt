@@ -1,5 +1,7 @@
-use Rattle.std.proofs.Common.{◌≡◌, ◌∷◌, [], sym, ap, subst, ◌∙◌}
+use Rattle.std.proofs.Common.{◌≡◌, ◌∷◌, [], length, sym, ap, subst, ◌∙◌}
+use Rattle.std.specs.Prelude.{IfOk}
 use Rattle.std.proofs.lemmas.Result.{on_ok_weaker}
+use Rattle.ip6_views.specs.Sight.{sight_of, lane_of_sight}
 use Rattle.pcap_source.specs.Captured.{Captured}
 use Rattle.lane_rings.specs.declared.items.Packet.{Packet}
 use Rattle.lane_rings.specs.Places.{lent}
@@ -23,3 +25,8 @@ returns-clause-dealt g c =
     (λ (deals : (f : Captured) → lent packet ≡ sent_as script packet.index f → Deals g.L.Recorder script packet.index (f ∷ []) old new).
     subst (λ n. Deals g.L.Recorder script n (frame ∷ []) old new) index_is (deals frame (is ∙ ap (λ n. sent_as script n frame) (sym index_is))))
     c.deal_packet.ensures.dealt
+
+pub returns-clause-lane : goal.returns-clause-lane
+returns-clause-lane g c =
+    subst (λ bytes. IfOk c.deal_packet.result (λ lane. lane ≡ lane_of_sight (sight_of bytes) (length c.args.inputs.now.items)))
+    (ap (λ (p : Packet). p.frame.bytes) c.in_frame-packet.ensures) c.deal_packet.ensures.lane
