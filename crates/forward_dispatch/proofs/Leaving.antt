@@ -1,212 +1,197 @@
--- A forward run while it streams: what was sent, what has come back, and what has left.
-use Rattle.std.proofs.Common.{◌≡◌, ◌≢◌, ◌<◌, ◌≤◌, ℕ, ◌+◌, true, Option, Some, List, [], ◌∷◌, ◌++◌, length, refl, sym, ap, subst, ◌∙◌, ◌⊎◌, ⊎_elim, arith}
-use Rattle.std.specs.Prelude.{Result, Err, nat_lt}
-use Rattle.std.specs.Io.KnownBytes.{Appends, Keeps as Stays}
+-- Packets on their way that leave.
+use Rattle.std.proofs.Common.{◌≡◌, ◌<◌, ◌≤◌, ◌+◌, ℕ, Option, List, [], ◌∷◌, ◌++◌, length, drop, get_or, set, refl, sym, ap, subst, ◌∙◌, drop-drop, arith}
+use Rattle.std.specs.Prelude.{Result, Ok, Err, IsOk, ⊤}
+use Rattle.std.specs.Io.KnownBytes.{Appends, Keeps}
 use Rattle.std.proofs.KnownBytes.{Appends-kept}
-use mathlib.Core.List.{IsPrefix}
-use Rattle.std.proofs.Common.{append_assoc}
-use Rattle.std.proofs.lemmas.List.{append-nil, length_push}
-use Rattle.pcap_source.specs.Captured.{Captured}
-use Rattle.pcap_source.specs.Reading.{CaptureState, frames_at}
-use Rattle.pcap_source.specs.declared.errors.NextError.{NextError}
-use Rattle.pcap_source.specs.declared.errors.NextError.TheVariants.{TooLong, TooMany, ReadFault, NoMemory}
+use Rattle.std.proofs.lemmas.List.{length_push, length-drop, get_or-drop, get_or_append_left, get_or_default, drop-append-le}
+use Rattle.mos_bytes.specs.Writes.{AppendsFront}
 use Rattle.lane_rings.specs.declared.items.Answer.{Answer}
-use Rattle.lane_rings.specs.Waiting.{Waiting, first_of}
-use Rattle.lane_composition.specs.Forward.{Leaving, Keeps, bytes_of_first}
-use Rattle.control_script.specs.declared.stamped.Stamped.{Stamped}
-use Rattle.lane_core.specs.declared.recorder.Recorder.{Ghosts}
-use Rattle.lane_worker.specs.declared.worker.Worker.{Worker}
-use Rattle.forward_dispatch.specs.declared.dispatch.Dealing.{Dealing}
+use Rattle.lane_composition.specs.Forwarded.{bytes_out}
+use Rattle.lane_composition.specs.Forward.{HaveLeft, HasLeft}
 use Rattle.forward_dispatch.specs.declared.lane_answers.LaneAnswers.{LaneAnswers}
-use Rattle.worker_pool.specs.declared.team.dispatch.Whole.{Whole}
-use Rattle.worker_pool.specs.declared.job.PoolError.{PoolError}
-use Rattle.worker_pool.specs.declared.job.PoolError.TheVariants.{WriteFault, NoMemory as OutOfMemory}
-use Rattle.worker_pool.specs.Refused.{read_refusal}
-use Rattle.worker_pool.specs.Inputs.{AreInputs, ReadsAs}
-use Rattle.forward_dispatch.specs.Streamed.{AreLaneAnswers, Leaves, HasLeft, StopsAs, lane_at, taken_from}
-use Rattle.forward_dispatch.specs.Drained.{OfferAll}
-use Rattle.forward_dispatch.specs.Turns.{HasSent, LeavesSo, IsLeftSo, WentOn, Told}
-use Rattle.forward_dispatch.specs.TakenAnswers.{HaveTaken, LeaveAll, CutAll, counted_on}
-use Rattle.worker_pool.specs.GoesOn.{IsReadTo}
-use Rattle.forward_dispatch.proofs.TakingAnswers.{still_sent, all_answers_after, sent_to, lane_before, counted_length, counted_taken}
+use Rattle.forward_dispatch.specs.declared.on_their_way.OnTheirWay.{OnTheirWay}
+use Rattle.forward_dispatch.specs.Given.{given_from, Gives}
+use Rattle.forward_dispatch.specs.OnTheirWay.{Leaves, IsCutOff, LeavesOn, SameRings, lane_by}
+use Rattle.forward_dispatch.proofs.Given.{same_rings, rings_then, given_here, given_other, given_none, rings_one}
 
--- ---- what has left
+-- an error is no value
+pub no_value : {T E : Type 0} (e : E) (result : Result T E) → result ≡ Err e → IsOk result → ⊥
+no_value e (Ok value) is ok = cc
+no_value e (Err error) is ok = cc
 
--- what was written whole is cut nowhere
-pub left_whole : (lane : ℕ → ℕ) (n : ℕ) (taken_so_far : ℕ → List Answer) (w : Waiting) (old new : Option (List ℕ)) → Leaves lane n taken_so_far w old new → HasLeft lane n taken_so_far old new
-left_whole lane n taken_so_far w old new l = record {
-  state = l.state;
-  part = [];
-  keeps = l.keeps;
-  cut = (bytes_of_first (first_of l.state.waiting), refl);
-  written = subst (Appends old new) (sym (append-nil l.state.out)) l.written;
+-- ---- what the laws say
+
+abbrev pub IsNextLaw : Type 0
+IsNextLaw = (lane : ℕ → ℕ) (n : ℕ) (given after : ℕ → List Answer) (a : Answer) (old mid new : Option (List ℕ)) → HaveLeft lane n given old mid
+    → after (lane n) ≡ given (lane n) ++ a ∷ [] → ((l : ℕ) → (l ≡ lane n → ⊥) → after l ≡ given l) → Appends mid new (bytes_out a) → HaveLeft lane (n + 1) after old new
+
+abbrev pub IsCutLaw : Type 0
+IsCutLaw = (lane : ℕ → ℕ) (n m : ℕ) (given after : ℕ → List Answer) (a : Answer) (old mid new : Option (List ℕ)) → n < m → HaveLeft lane n given old mid
+    → after (lane n) ≡ given (lane n) ++ a ∷ [] → ((l : ℕ) → (l ≡ lane n → ⊥) → after l ≡ given l) → AppendsFront mid new (bytes_out a) → HasLeft lane m after old new
+
+abbrev pub IsSomeLaw : Type 0
+IsSomeLaw = (lane : ℕ → ℕ) (n m : ℕ) (given : ℕ → List Answer) (old new : Option (List ℕ)) → n ≤ m → HaveLeft lane n given old new → HasLeft lane m given old new
+
+abbrev pub IsLaterLaw : Type 0
+IsLaterLaw = (lane other : ℕ → ℕ) (n : ℕ) (given : ℕ → List Answer) (old new : Option (List ℕ)) → ((i : ℕ) → i < n → other i ≡ lane i) → HaveLeft lane n given old new
+    → HaveLeft other n given old new
+
+-- ---- what has left, seen otherwise
+
+-- by other names of the same answers, and with the output handed on
+pub left_as : (lane : ℕ → ℕ) (n : ℕ) (given after : ℕ → List Answer) (before mid new : Option (List ℕ)) → ((l : ℕ) → after l ≡ given l) → Keeps mid new → HaveLeft lane n given before mid
+    → HaveLeft lane n after before new
+left_as lane n given after before mid new same keeps l = record {
+  counted = λ k. ap length (same k) ∙ l.counted k;
+  written = λ answer of. Appends-kept before mid new _ (l.written answer (λ k. sym (same k) ∙ of k)) keeps;
 }
 
--- the output may hand on what it gathers
-handed_on : (lane : ℕ → ℕ) (n : ℕ) (taken_so_far : ℕ → List Answer) (w : Waiting) (before mid new : Option (List ℕ)) → Stays mid new
-    → Leaves lane n taken_so_far w before mid → Leaves lane n taken_so_far w before new
-handed_on lane n taken_so_far w before mid new same l = record {
-  state = l.state;
-  waits = l.waits;
-  keeps = l.keeps;
-  written = Appends-kept before mid new l.state.out l.written same;
+within : (order : List ℕ) (way : OnTheirWay) (old new : Option (List ℕ)) → Leaves order way old new → way.next ≤ length order
+within order way old new l = let e = l.sent in omega (arith, e)
+
+pub cut_nowhere : IsSomeLaw → (order : List ℕ) (way : OnTheirWay) (old new : Option (List ℕ)) → Leaves order way old new → IsCutOff order way old new
+cut_nowhere law order way old new l = law (lane_by order) way.next (length order) (given_from way.all_answers.items) old new (within order way old new l) l.left
+
+-- the output was handed on
+pub handed_on : (order : List ℕ) (way : OnTheirWay) (before mid new : Option (List ℕ)) → Keeps mid new → Leaves order way before mid → Leaves order way before new
+handed_on order way before mid new keeps l = record {
+  sent = l.sent;
+  lanes = l.lanes;
+  left = left_as (lane_by order) way.next (given_from way.all_answers.items) (given_from way.all_answers.items) before mid new (λ k. refl) keeps l.left;
 }
 
-module _ (a b : List LaneAnswers) (w v : Waiting) (old mid : Option (List ℕ)) (so_far : LeaveAll a b w v old mid) where
-  -- more is written
-  pub written_then : (u : Waiting) (new : Option (List ℕ))
-      → ((lane : ℕ → ℕ) (n : ℕ) (taken_so_far : ℕ → List Answer) (before : Option (List ℕ)) → Leaves lane n taken_so_far v before mid → Leaves lane n taken_so_far u before new)
-      → LeaveAll a b w u old new
-  written_then u new on = record { leaves = λ lane n before counts l. on lane n (taken_from b) before (so_far.leaves lane n before counts l) }
+-- ---- the first of those on their way
 
-  pub handed_then : (new : Option (List ℕ)) → Stays mid new → LeaveAll a b w v old new
-  handed_then new same = written_then v new (λ lane n taken_so_far before. handed_on lane n taken_so_far v before mid new same)
+module _ (a b : OnTheirWay) (k : ℕ) (e now : LaneAnswers) (below : k < length a.all_answers.items) (at : e ≡ get_or a.all_answers.items k e) (all : b.all_answers.items ≡ set a.all_answers.items k now) where
+  -- its lane has not answered
+  module _ (next : b.next ≡ a.next) (lanes : b.lanes.items ≡ a.lanes.items) (gives : Gives e now []) (some : IsSomeLaw) where
+    given_same : (l : ℕ) → given_from b.all_answers.items l ≡ given_from a.all_answers.items l
+    given_same l = ap (λ xs. given_from xs l) all ∙ given_none a.all_answers.items k e now below at gives l
 
-  pub cut_nowhere : CutAll a b w old mid
-  cut_nowhere = record { cut = λ lane n before counts l. left_whole lane n (taken_from b) v before mid (so_far.leaves lane n before counts l) }
-
-  -- more is taken
-  pub offered_then : (c : List LaneAnswers) (u : Waiting) → HaveTaken a b → OfferAll b c v u → LeaveAll a c w u old mid
-  offered_then c u takes offers = record {
-    leaves = λ lane n before counts l. offers.leaves lane n before mid (still_sent lane n a b takes counts) (so_far.leaves lane n before counts l);
-  }
-
--- ---- a packet is sent
-
-abbrev pub IsLaterRight : Type 0
-IsLaterRight = (lane other : ℕ → ℕ) (n : ℕ) (taken_so_far : ℕ → List Answer) (s : Leaving) → ((i : ℕ) → i < n → other i ≡ lane i) → Keeps lane n taken_so_far s → Keeps other n taken_so_far s
-
-abbrev pub IsSendingRight : Type 0
-IsSendingRight = (lane : ℕ → ℕ) (n : ℕ) (taken_so_far : ℕ → List Answer) (s : Leaving) → Keeps lane n taken_so_far s → nat_lt n (s.waiting.next + length s.waiting.window) ≡ true
-    → Keeps lane (n + 1) taken_so_far s
-
-pub sent_leaves : (later : IsLaterRight) (sending : IsSendingRight) (lane other : ℕ → ℕ) (n : ℕ) (taken_so_far : ℕ → List Answer) (w : Waiting) (old new : Option (List ℕ))
-    → ((i : ℕ) → i < n → other i ≡ lane i) → nat_lt n (w.next + length w.window) ≡ true → Leaves lane n taken_so_far w old new → Leaves other (n + 1) taken_so_far w old new
-sent_leaves later sending lane other n taken_so_far w old new agree place l = record {
-  state = l.state;
-  waits = l.waits;
-  keeps = sending other n taken_so_far l.state (later lane other n taken_so_far l.state agree l.keeps) (subst (λ (u : Waiting). nat_lt n (u.next + length u.window) ≡ true) (sym l.waits) place);
-  written = l.written;
-}
-
--- a packet is sent to its lane, and what that lane has answered is taken
-pub sent_and_taken : {L : Type 0} (later : IsLaterRight) (sending : IsSendingRight) (begins : List (Worker L)) (frames : List Captured) (frame : Captured) (n : ℕ) (all_answers now : List LaneAnswers)
-    (k : ℕ) (r : LaneAnswers) (w v : Waiting) (old new : Option (List ℕ))
-    → length frames ≡ n → nat_lt n (w.next + length w.window) ≡ true → AreLaneAnswers begins (frames ++ frame ∷ []) (counted_on all_answers k r)
-    → HaveTaken (counted_on all_answers k r) now → OfferAll (counted_on all_answers k r) now w v
-    → Leaves (lane_at (length all_answers) frames) n (taken_from all_answers) w old new
-    → Leaves (lane_at (length now) (frames ++ frame ∷ [])) (n + 1) (taken_from now) v old new
-sent_and_taken later sending begins frames frame n all_answers now k r w v old new count place are takes offers l =
-    let lanes = length all_answers in
-    let more = lane_at lanes (frames ++ frame ∷ []) in
-    subst (λ m. Leaves (lane_at m (frames ++ frame ∷ [])) (n + 1) (taken_from now) v old new) (sym (takes.count ∙ counted_length all_answers k r))
-    (offers.leaves more (n + 1) old new
-    (sent_to begins (frames ++ frame ∷ []) (counted_on all_answers k r) lanes (n + 1) (counted_length all_answers k r) (length_push frames frame ∙ ap (λ m. m + 1) count) are)
-    (subst (λ (f : ℕ → List Answer). Leaves more (n + 1) f w old new) (sym (counted_taken all_answers k r))
-    (sent_leaves later sending (lane_at lanes frames) more n (taken_from all_answers) w old new (λ i lt. lane_before lanes frames frame i (omega (arith, count, lt))) place l)))
-
--- ---- the run
-
-module _ {L : Type 0} (g : Ghosts L) (script : List Stamped) where
-  -- nothing was sent
-  pub went_none : (d : Dealing L) (out : Option (List ℕ)) → WentOn g script d d out out []
-  went_none d out = record {
-    sent = λ begins frames s. subst (λ (fs : List Captured). HasSent g script begins fs d) (sym (append-nil frames)) s;
-    leaves = λ begins frames before s l. subst (λ (fs : List Captured). LeavesSo fs d before out) (sym (append-nil frames)) l;
-  }
-
-  pub went_then : (a b d : Dealing L) (old mid new : Option (List ℕ)) (xs ys : List Captured) → WentOn g script a b old mid xs → WentOn g script b d mid new ys → WentOn g script a d old new (xs ++ ys)
-  went_then a b d old mid new xs ys p q = record {
-    sent = λ begins frames s. subst (λ (fs : List Captured). HasSent g script begins fs d) (append_assoc frames xs ys) (q.sent begins (frames ++ xs) (p.sent begins frames s));
-    leaves = λ begins frames before s l. subst (λ (fs : List Captured). LeavesSo fs d before new) (append_assoc frames xs ys)
-        (q.leaves begins (frames ++ xs) before (p.sent begins frames s) (p.leaves begins frames before s l));
-  }
-
-  -- while a place was awaited nothing was sent
-  module _ (a b : Dealing L) (inputs : (begins : List (Worker L)) (frames : List Captured) → AreInputs g script begins frames a.inputs.items → AreInputs g script begins frames b.inputs.items)
-      (takes : HaveTaken a.all_answers.items b.all_answers.items) (packets : b.packets ≡ a.packets) (last : b.last ≡ a.last) where
-    pub awaited_sent : (begins : List (Worker L)) (frames : List Captured) → HasSent g script begins frames a → HasSent g script begins frames b
-    awaited_sent begins frames s = record {
-      count = s.count ∙ sym packets;
-      newest = last ∙ s.newest;
-      inputs_are = inputs begins frames s.inputs_are;
-      all_answers_are = all_answers_after begins frames a.all_answers.items b.all_answers.items takes s.all_answers_are;
+    none_on : (old new : Option (List ℕ)) → Keeps old new → (order : List ℕ) (before : Option (List ℕ)) → Leaves order a before old → Leaves order b before new
+    none_on old new keeps order before l = record {
+      sent = l.sent ∙ sym (ap (λ n. n + length b.lanes.items) next ∙ ap (λ xs. a.next + length xs) lanes);
+      lanes = lanes ∙ l.lanes ∙ ap (λ n. drop n order) (sym next);
+      left = subst (λ n. HaveLeft (lane_by order) n (given_from b.all_answers.items) before new) (sym next)
+          (left_as (lane_by order) a.next (given_from a.all_answers.items) (given_from b.all_answers.items) before old new given_same keeps l.left);
     }
 
-    module _ (old new : Option (List ℕ)) where
-      pub awaited_leaves : LeaveAll a.all_answers.items b.all_answers.items a.waiting b.waiting old new → (begins : List (Worker L)) (frames : List Captured) (before : Option (List ℕ))
-          → HasSent g script begins frames a → LeavesSo frames a before old → LeavesSo frames b before new
-      awaited_leaves on begins frames before s l =
-          subst (λ n. Leaves (lane_at n frames) (length frames) (taken_from b.all_answers.items) b.waiting before new) (sym takes.count)
-          (on.leaves (lane_at (length a.all_answers.items) frames) (length frames) before s.all_answers_are.sent_are l)
+    pub leaves_none : (old new : Option (List ℕ)) → Keeps old new → (whole : Type 0) → LeavesOn a b old new whole
+    leaves_none old new keeps whole = record {
+      on = λ is. none_on old new keeps;
+      cut = λ order before l. cut_nowhere some order b before new (none_on old new keeps order before l);
+      sent = ap (λ n. n + length b.lanes.items) next ∙ ap (λ xs. a.next + length xs) lanes;
+      later = omega (arith, next);
+      rings = subst (SameRings a.all_answers.items) (sym all) (rings_one a.all_answers.items k e now [] below at gives);
+    }
 
-      pub awaited_cut : CutAll a.all_answers.items b.all_answers.items a.waiting old new → (begins : List (Worker L)) (frames : List Captured) (before : Option (List ℕ))
-          → HasSent g script begins frames a → LeavesSo frames a before old → IsLeftSo frames b before new
-      awaited_cut on begins frames before s l =
-          subst (λ n. HasLeft (lane_at n frames) (length frames) (taken_from b.all_answers.items) before new) (sym takes.count)
-          (on.cut (lane_at (length a.all_answers.items) frames) (length frames) before s.all_answers_are.sent_are l)
+  module _ (x : Answer) (gives : Gives e now (x ∷ [])) (some : 0 < length a.lanes.items) (first : k ≡ get_or a.lanes.items 0 k) where
+    module _ (order : List ℕ) (old before : Option (List ℕ)) (l : Leaves order a before old) where
+      lane_is : lane_by order a.next ≡ k
+      lane_is =
+          ap (λ n. get_or order n 0) (let z : a.next ≡ a.next + 0 = omega arith in z) ∙ sym (get_or-drop a.next order 0 0) ∙ ap (λ xs. get_or xs 0 0) (sym l.lanes) ∙ sym (first ∙ get_or_default a.lanes.items 0 k 0 some)
 
-      -- and then one packet was
-      pub awaited_went : (d : Dealing L) (more : List Captured) → LeaveAll a.all_answers.items b.all_answers.items a.waiting b.waiting old new → WentOn g script b d new new more
-          → WentOn g script a d old new more
-      awaited_went d more on went = record {
-        sent = λ begins frames s. went.sent begins frames (awaited_sent begins frames s);
-        leaves = λ begins frames before s l. went.leaves begins frames before (awaited_sent begins frames s) (awaited_leaves on begins frames before s l);
+      here : given_from b.all_answers.items (lane_by order a.next) ≡ given_from a.all_answers.items (lane_by order a.next) ++ x ∷ []
+      here =
+          subst (λ i. given_from b.all_answers.items i ≡ given_from a.all_answers.items i ++ x ∷ []) (sym lane_is)
+          (ap (λ xs. given_from xs k) all ∙ given_here a.all_answers.items k e now (x ∷ []) below at gives)
+
+      others : (j : ℕ) → (j ≡ lane_by order a.next → ⊥) → given_from b.all_answers.items j ≡ given_from a.all_answers.items j
+      others j other = ap (λ xs. given_from xs j) all ∙ given_other a.all_answers.items k e now (x ∷ []) below at gives j (λ is. other (is ∙ sym lane_is))
+
+      -- it left whole
+      pub left_whole : (new : Option (List ℕ)) → IsNextLaw → b.next ≡ a.next + 1 → b.lanes.items ≡ drop 1 a.lanes.items → Appends old new (bytes_out x) → Leaves order b before new
+      left_whole new law next lanes wrote = record {
+        sent = let s = l.sent in let d = ap length lanes ∙ length-drop 1 a.lanes.items in omega (arith, s, d, next, some);
+        lanes = lanes ∙ ap (drop 1) l.lanes ∙ drop-drop 1 a.next order ∙ ap (λ n. drop n order) (sym next);
+        left = subst (λ n. HaveLeft (lane_by order) n (given_from b.all_answers.items) before new) (sym next)
+            (law (lane_by order) a.next (given_from a.all_answers.items) (given_from b.all_answers.items) x before old new l.left here others wrote);
       }
 
--- ---- how it stops
+      -- it was cut off
+      pub left_cut : (new : Option (List ℕ)) → IsCutLaw → AppendsFront old new (bytes_out x) → IsCutOff order b before new
+      left_cut new law cut =
+          law (lane_by order) a.next (length order) (given_from a.all_answers.items) (given_from b.all_answers.items) x before old new (let s = l.sent in omega (arith, s, some)) l.left here others cut
 
-pub front_of : (start now : CaptureState) (bytes : List ℕ) (frames : List Captured) (left : Option (List ℕ)) → IsReadTo start bytes frames now left → IsPrefix frames (frames_at start bytes).frames
-front_of start now bytes frames left r = ((frames_at now r.rest).frames, sym (ap (λ f. f.frames) r.holds))
+    rings_on : SameRings a.all_answers.items b.all_answers.items
+    rings_on = subst (SameRings a.all_answers.items) (sym all) (rings_one a.all_answers.items k e now (x ∷ []) below at gives)
 
--- where it is cut off, or out of memory, while it waits
-pub stops_early : (frames : List Captured) (start : CaptureState) (old new : Option (List ℕ)) (e : PoolError) → (e ≡ WriteFault) ⊎ (e ≡ OutOfMemory) → StopsAs frames start old new (Err e)
-stops_early frames start old new e only = ⊎_elim
-    (λ is. subst (λ (x : PoolError). StopsAs frames start old new (Err x)) (sym is) tt)
-    (λ is. subst (λ (x : PoolError). StopsAs frames start old new (Err x)) (sym is) tt)
-    only
+    pub leaves_whole : (old new : Option (List ℕ)) (whole : Type 0) → IsNextLaw → IsSomeLaw → b.next ≡ a.next + 1 → b.lanes.items ≡ drop 1 a.lanes.items → Appends old new (bytes_out x) → LeavesOn a b old new whole
+    leaves_whole old new whole law any next lanes wrote = record {
+      on = λ is order before l. left_whole order old before l new law next lanes wrote;
+      cut = λ order before l. cut_nowhere any order b before new (left_whole order old before l new law next lanes wrote);
+      sent = let d = ap length lanes ∙ length-drop 1 a.lanes.items in omega (arith, d, next, some);
+      later = omega (arith, next);
+      rings = rings_on;
+    }
 
--- a refusal of the capture is told
-pub stops_refused : (frames : List Captured) (start : CaptureState) (old new : Option (List ℕ)) (e : NextError) → ReadsAs frames start old new (Err e)
-    → StopsAs frames start old new (Err (read_refusal e))
-stops_refused frames start old new (TooLong offset) reads = reads
-stops_refused frames start old new (TooMany offset) reads = reads
-stops_refused frames start old new ReadFault reads = tt
-stops_refused frames start old new NoMemory reads = tt
+    pub leaves_cut : (old new : Option (List ℕ)) (whole : Type 0) → (whole → ⊥) → IsCutLaw → b.next ≡ a.next → b.lanes.items ≡ a.lanes.items → AppendsFront old new (bytes_out x) → LeavesOn a b old new whole
+    leaves_cut old new whole not law next lanes cut = record {
+      on = λ is. absurd (not is);
+      cut = λ order before l. left_cut order old before l new law cut;
+      sent = ap (λ n. n + length b.lanes.items) next ∙ ap (λ xs. a.next + length xs) lanes;
+      later = omega (arith, next);
+      rings = rings_on;
+    }
 
-pub same_refusal : {T : Type 0} (a b : PoolError) (r : Result T PoolError) → r ≡ Err a → r ≡ Err b → a ≡ b
-same_refusal a b r one two = cc
+-- ---- one after another
 
-module _ {L : Type 0} (g : Ghosts L) (script : List Stamped) (begins : List (Worker L)) (frames : List Captured) (few : length frames ≤ 1048576) (start now : CaptureState)
-    (first left last before : Option (List ℕ)) (reads : (bytes : List ℕ) → first ≡ Some bytes → IsReadTo start bytes frames now left) (d : Dealing L) (out : Option (List ℕ))
-    (s : HasSent g script begins frames d) where
-  -- what is told of a run that stops: all that was taken and whose turn it was has left
-  pub told_whole : (result : Result Whole PoolError) → LeavesSo frames d before out → StopsAs frames start first last result → Told g script start first last begins d before out result
-  told_whole result whole stops = record {
-    frames = frames;
-    few = few;
-    inputs_are = s.inputs_are;
-    done = record {
-      all_answers_are = s.all_answers_are;
-      left = left_whole (lane_at (length d.all_answers.items) frames) (length frames) (taken_from d.all_answers.items) d.waiting before out whole;
-      leaves = λ not. whole;
-      front = λ bytes is. front_of start now bytes frames left (reads bytes is);
-      stops = stops;
-    };
-  }
+pub leaves_same : IsSomeLaw → (a : OnTheirWay) (old : Option (List ℕ)) (whole : Type 0) → LeavesOn a a old old whole
+leaves_same some a old whole = record {
+  on = λ is order before l. l;
+  cut = λ order before l. cut_nowhere some order a before old l;
+  sent = refl;
+  later = omega arith;
+  rings = same_rings a.all_answers.items;
+}
 
-  -- while a place was awaited
-  pub told_early : (e : PoolError) → (e ≢ WriteFault → LeavesSo frames d before out) → IsLeftSo frames d before out → (e ≡ WriteFault) ⊎ (e ≡ OutOfMemory)
-      → Told g script start first last begins d before out (Err e)
-  told_early e whole cut only = record {
-    frames = frames;
-    few = few;
-    inputs_are = s.inputs_are;
-    done = record {
-      all_answers_are = s.all_answers_are;
-      left = cut;
-      leaves = λ not. whole (λ is. not (ap (λ x. Err x) is));
-      front = λ bytes is. front_of start now bytes frames left (reads bytes is);
-      stops = stops_early frames start first last e only;
-    };
-  }
+pub leaves_then : (a b c : OnTheirWay) (old mid new : Option (List ℕ)) (all whole : Type 0) → all → LeavesOn a b old mid all → LeavesOn b c mid new whole → LeavesOn a c old new whole
+leaves_then a b c old mid new all whole held p q = record {
+  on = λ is order before l. q.on is order before (p.on held order before l);
+  cut = λ order before l. q.cut order before (p.on held order before l);
+  sent = q.sent ∙ p.sent;
+  later = let x = p.later in let y = q.later in omega (arith, x, y);
+  rings = rings_then a.all_answers.items b.all_answers.items c.all_answers.items p.rings q.rings;
+}
+
+pub leaves_less : (a b : OnTheirWay) (old new : Option (List ℕ)) (whole less : Type 0) → (less → whole) → LeavesOn a b old new whole → LeavesOn a b old new less
+leaves_less a b old new whole less all p = record { on = λ is. p.on (all is); cut = p.cut; sent = p.sent; later = p.later; rings = p.rings }
+
+module _ (a b c : OnTheirWay) (old mid new : Option (List ℕ)) (so_far : LeavesOn a b old mid ⊤) where
+  -- more were written, and none was cut off
+  pub leaves_well : {T E : Type 0} (value : T) (result : Result T E) (whole : Type 0) → result ≡ Ok value → LeavesOn b c mid new (IsOk result) → LeavesOn a c old new whole
+  leaves_well value result whole is on =
+      leaves_less a c old new (IsOk result) whole (λ held. subst IsOk (sym is) refl) (leaves_then a b c old mid new ⊤ (IsOk result) tt so_far on)
+
+  -- or one was
+  pub leaves_ill : {T E : Type 0} (result : Result T E) (whole : Type 0) → (whole → ⊥) → LeavesOn b c mid new (IsOk result) → LeavesOn a c old new whole
+  leaves_ill result whole not on = leaves_less a c old new (IsOk result) whole (λ held. absurd (not held)) (leaves_then a b c old mid new ⊤ (IsOk result) tt so_far on)
+
+-- and the output is handed on
+pub leaves_handed : IsSomeLaw → (a b : OnTheirWay) (old mid new : Option (List ℕ)) (all whole : Type 0) → all → LeavesOn a b old mid all → Keeps mid new → LeavesOn a b old new whole
+leaves_handed some a b old mid new all whole held p keeps = record {
+  on = λ is order before l. handed_on order b before mid new keeps (p.on held order before l);
+  cut = λ order before l. cut_nowhere some order b before new (handed_on order b before mid new keeps (p.on held order before l));
+  sent = p.sent;
+  later = p.later;
+  rings = p.rings;
+}
+
+-- ---- one packet more is sent
+
+pub joined : IsLaterLaw → (order : List ℕ) (a b : OnTheirWay) (k : ℕ) (before now : Option (List ℕ)) → b.next ≡ a.next → b.lanes.items ≡ a.lanes.items ++ k ∷ []
+    → b.all_answers.items ≡ a.all_answers.items → Leaves order a before now → Leaves (order ++ k ∷ []) b before now
+joined later order a b k before now next lanes all l =
+    let le = within order a before now l in
+    record {
+      sent =
+          let s = l.sent in
+          let x = length_push order k in
+          let y = ap length lanes ∙ length_push a.lanes.items k in
+          omega (arith, s, x, y, next);
+      lanes = lanes ∙ ap (λ xs. xs ++ k ∷ []) l.lanes ∙ sym (drop-append-le a.next order (k ∷ []) le) ∙ ap (λ n. drop n (order ++ k ∷ [])) (sym next);
+      left = subst (λ n. HaveLeft (lane_by (order ++ k ∷ [])) n (given_from b.all_answers.items) before now) (sym next)
+          (subst (λ (xs : List LaneAnswers). HaveLeft (lane_by (order ++ k ∷ [])) a.next (given_from xs) before now) (sym all)
+          (later (lane_by order) (lane_by (order ++ k ∷ [])) a.next (given_from a.all_answers.items) before now
+          (λ i lt. get_or_append_left order (k ∷ []) 0 i (omega (arith, lt, le))) l.left));
+    }

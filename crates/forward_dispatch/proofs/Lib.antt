@@ -1,3 +1,6 @@
-mod Draining
-mod TakingAnswers
+mod Batches
+mod Given
 mod Leaving
+mod Turning
+mod Ending
+mod Comparing

@@ -1,5 +1,6 @@
-pub mod Streamed
-pub mod Drained
-pub mod TakenAnswers
+pub mod Rest
+pub mod Given
 pub mod OnTheirWay
+pub mod Streamed
 pub mod Turns
+pub mod Compared

@@ -1,94 +1,91 @@
 //! What a lane answers.
 
-ghost use Rattle.std.specs.Prelude.{◌≡◌, ◌<◌, length, get_or};
-ghost use Rattle.lane_composition.specs.Forward.{Leaving, offered};
-ghost use Rattle.forward_dispatch.specs.declared.lane_answers.LaneAnswers.{LaneAnswers as Answered};
-ghost use Rattle.forward_dispatch.specs.Drained.{KeepsTurn, Offers, OfferAll};
-ghost use Rattle.forward_dispatch.specs.TakenAnswers.{IsCounted, AreCounted, HasTaken, HaveTaken, counted_on};
+ghost use Rattle.std.specs.Prelude.{◌≡◌, ◌++◌};
+ghost use Rattle.lane_rings.specs.Answers.{answers_in};
+ghost use Rattle.lane_rings.specs.Ring.{taken};
+ghost use Rattle.forward_dispatch.specs.Rest.{rest_of, before_rest};
 
-use lane_composition::forward::taking_stays_right;
-use lane_rings::{Answer, AnswerRx, Resequencer};
+use crate::exit::write_answer;
+use lane_rings::{AnswerBatch, AnswerBatchRx, Batch, BatchTx, FlatAnswers};
+use mos_bytes::{Failed, Sink};
+use std::alloc::Global;
+use std::mem::replace;
 
-/// What a lane of a forward run answers: where its answers are taken, and how many.
+/// What a lane of a forward run answers, packet by packet.
 #[derive(Drop)]
 pub struct LaneAnswers {
-    /// Its end of the ring through which the lane's worker answers.
-    pub answers: AnswerRx,
-    /// How many packets were sent to the lane.
-    pub sent: u64,
-    /// How many answers were taken from it.
-    pub taken: u64,
+    // The end of the ring through which the lane's worker answers.
+    pub(crate) ring: AnswerBatchRx,
+    // The batch at hand.
+    batch: AnswerBatch,
+    // How many of its answers were given out.
+    at: usize,
+    // Where a batch goes whose answers were given out, so that its memory serves again.
+    back: BatchTx,
+    ghost whole: { before_rest (answers_in (taken ring)) (rest_of batch at) ++ rest_of batch at
+        ≡ answers_in (taken ring) },
 }
 
-/// Offers an answer. One that comes back is let go: where all answers are right there is none.
-pub(crate) fn offer(waiting: &mut Resequencer, answer: Answer)
-    ensures offered { (s : Leaving) → s.waiting ≡ waiting.old → (offered answer s).waiting ≡ waiting.new }
-    ensures turn { KeepsTurn waiting.old waiting.new }
-{
-    let _ = waiting.offer(answer);
-}
+impl LaneAnswers {
+    ghost use Rattle.std.specs.Prelude.{ℕ, ◌<◌, ◌≤◌, ◌-◌, ◌^◌, [], length, true, IsErr};
+    ghost use Rattle.mos_bytes.specs.Outside.{Writes};
+    ghost use Rattle.lane_rings.specs.Answers.{answers_of};
+    ghost use Rattle.forward_dispatch.specs.Given.{given_by, Gives, LeavesOne};
 
-// Takes what the ring of a lane shows, at most one answer for each packet that was sent to the lane, and offers it.
-// Whether there was one.
-fn take_shown(lane_answers: &mut LaneAnswers, waiting: &mut Resequencer) -> bool
-    requires counted { IsCounted lane_answers.old }
-    ensures takes { HasTaken lane_answers.old lane_answers.new }
-    ensures offers { Offers lane_answers.old lane_answers.new waiting.old waiting.new }
-{
-    taking_stays_right();
-    let before = lane_answers.taken;
-    while lane_answers.taken < lane_answers.sent {
-        let Some(answer) = lane_answers.answers.take() else {
-            return before < lane_answers.taken;
-        };
-        lane_answers.taken += 1;
-        offer(waiting, answer);
-    }
-    before < lane_answers.taken
-}
-
-/// Takes what a lane has answered so far, and offers it to `waiting`. Whether there was an answer.
-pub(crate) fn take_answers(
-    all_answers: &mut Vec<LaneAnswers>,
-    lane: usize,
-    waiting: &mut Resequencer,
-) -> bool
-    requires within { lane < length all_answers.old.items }
-    requires counted { AreCounted all_answers.old.items }
-    ensures takes { HaveTaken all_answers.old.items all_answers.new.items }
-    ensures offers { OfferAll all_answers.old.items all_answers.new.items waiting.old waiting.new }
-{
-    take_shown(&mut all_answers[lane], waiting)
-}
-
-/// Takes what all lanes have answered so far, and offers it to `waiting`. Whether there was an answer.
-pub(crate) fn take_all(all_answers: &mut Vec<LaneAnswers>, waiting: &mut Resequencer) -> bool
-    requires counted { AreCounted all_answers.old.items }
-    ensures takes { HaveTaken all_answers.old.items all_answers.new.items }
-    ensures offers { OfferAll all_answers.old.items all_answers.new.items waiting.old waiting.new }
-{
-    let mut took = false;
-    for lane in 0..all_answers.len() {
-        took |= take_answers(all_answers, lane, waiting);
-    }
-    took
-}
-
-/// Counts one packet more that was sent to a lane.
-pub(crate) fn count_sent(all_answers: &mut Vec<LaneAnswers>, lane: usize)
-    requires within { lane < length all_answers.old.items }
-    requires few { (r : Answered) → (get_or all_answers.old.items lane r).sent < 1048576 }
-    ensures { (r : Answered) → all_answers.new.items ≡ counted_on all_answers.old.items lane r }
-{
-    all_answers[lane].sent += 1;
-}
-
-/// Whether all packets that were sent have been answered, and their answers taken.
-pub(crate) fn have_answered(all_answers: &[LaneAnswers]) -> bool {
-    for lane_answers in all_answers {
-        if lane_answers.taken < lane_answers.sent {
-            return false;
+    /// The answers of a lane that come through a ring from which nothing was taken. Batches that were given out go into
+    /// `back`.
+    pub fn new(alloc: Global, ring: AnswerBatchRx, back: BatchTx) -> LaneAnswers
+        requires untaken { taken ring ≡ [] }
+        ensures ring { result.ring ≡ ring }
+        ensures given { given_by result ≡ [] }
+    {
+        LaneAnswers {
+            ring,
+            batch: AnswerBatch::Flat(FlatAnswers::new(alloc)),
+            at: 0,
+            back,
         }
     }
-    true
+
+    // Takes the next batch from the ring, if that shows one, where the one at hand was given out. Whether it did.
+    fn take_batch(&mut self) -> bool
+        requires given { length (answers_of self.old.batch) ≤ self.old.at }
+        ensures same { Gives self.old self.new [] }
+    {
+        let Some(batch) = self.ring.take() else {
+            return false;
+        };
+        self.at = 0;
+        if let AnswerBatch::Flat(answers) = replace(&mut self.batch, batch) {
+            let _ = self.back.send(Batch::Flat(answers.emptied()));
+        }
+        true
+    }
+
+    // Whether an answer is at hand, or comes to hand with the next batch of the ring.
+    fn is_at_hand(&mut self) -> bool
+        ensures same { Gives self.old self.new [] }
+        ensures some { result ≡ true → self.new.at < length (answers_of self.new.batch) }
+        ensures few { result ≡ true → self.new.at < 2 ^ 64 - 1 }
+    {
+        if self.at < self.batch.len() {
+            return true;
+        }
+        self.take_batch() && self.at < self.batch.len()
+    }
+
+    /// Writes what the lane's next answer lets pass, and has given it out then, also where the write fails. False where the
+    /// lane has not answered.
+    pub(crate) fn write_next<O: Sink>(&mut self, out: &mut O) -> Result<bool, Failed>
+        ensures leaves { LeavesOne self.old self.new (O.taken out.old) (O.taken out.new) result }
+        ensures writes { Writes O.Sink out.old out.new (IsErr result) }
+    {
+        if !self.is_at_hand() {
+            return Ok(false);
+        }
+        let written = write_answer(&self.batch.answer(self.at), out);
+        self.at += 1;
+        written?;
+        Ok(true)
+    }
 }
