@@ -1,9 +1,9 @@
 -- What has left a forward run, by the answers of its lanes.
-use Rattle.std.proofs.Common.{◌≡◌, ◌<◌, ◌≤◌, ℕ, zero, suc, ◌+◌, Bool, true, false, cond, Option, Some, None, List, [], ◌∷◌, ◌++◌, length, map, get_or, refl, sym, ap, subst, ◌∙◌, ◌⊎◌, ⊎_elim, arith}
-use Rattle.std.specs.Prelude.{◌==◌, ◌-◌}
+use Rattle.std.proofs.Common.{◌≡◌, ◌<◌, ◌≤◌, ℕ, zero, suc, ◌+◌, Bool, Option, Some, None, List, [], ◌∷◌, ◌++◌, length, map, get_or, refl, sym, ap, subst, ◌∙◌, ⊎_elim, arith}
+use Rattle.std.specs.Prelude.{◌==◌}
 use Rattle.std.specs.Io.KnownBytes.{Appends}
 use Rattle.std.proofs.lemmas.Bool.{cases_lt}
-use Rattle.std.proofs.lemmas.List.{append-nil, length-map, get_or-map, get_or_default, get_or_past, get_or_append_left}
+use Rattle.std.proofs.lemmas.List.{length-map, get_or-map, get_or_default, get_or_past, get_or_append_left}
 use Rattle.std.proofs.lemmas.List.Elements.{filter-append}
 use mathlib.Core.List.{IsPrefix}
 use Rattle.mos_bytes.specs.Writes.{AppendsFront}
@@ -17,13 +17,14 @@ use Rattle.forest_versions.specs.declared.command.Command.{Command}
 use Rattle.control_script.specs.declared.stamped.Stamped.{Stamped}
 use Rattle.control_script.specs.Order.{commands_of}
 use Rattle.lane_rings.specs.declared.items.Answer.{Answer}
+use Rattle.lane_rings.specs.declared.items.AnswerBatch.{AnswerBatch}
 use Rattle.lane_rings.specs.declared.ring.RingTx.{RingTx}
+use Rattle.lane_rings.specs.Answers.{answers_in}
 use Rattle.lane_rings.specs.Ring.{sent}
 use Rattle.lane_composition.specs.Share.{share as numbers_of_share}
-use Rattle.lane_rings.specs.Waiting.{Waiting, first_of}
-use Rattle.lane_composition.specs.Forwarded.{bytes_out, forwarded as forwarded_numbers}
+use Rattle.lane_composition.specs.Forwarded.{forwarded as forwarded_numbers}
 use Rattle.run_outcome.specs.Forwarded.{bytes_under as captured_under}
-use Rattle.lane_composition.specs.Forward.{Leaving, Keeps, AreFronts, AreIndexed, bytes_of_first}
+use Rattle.lane_composition.specs.Forward.{HaveLeft, HasLeft}
 use Rattle.lane_core.specs.declared.recorder.Recorder.{Ghosts}
 use Rattle.lane_core.specs.Sight.{Arrival, arrivals, arrival_of, sight_of}
 use Rattle.lane_core.specs.Run.{LaneEvent}
@@ -39,30 +40,15 @@ use Rattle.forward_dispatch.specs.declared.lane_answers.LaneAnswers.{LaneAnswers
 use Rattle.lane_worker.specs.Worked.{Sends}
 use Rattle.worker_pool.specs.Ending.{by_key, CameTo}
 use Rattle.run_outcome.specs.Forwarded.{left_by_all, forwarded_with}
-use Rattle.forward_dispatch.specs.Streamed.{IsAnswered, AreLaneAnswers, Leaves, HasLeft, lane_at}
-use Rattle.forward_dispatch.specs.Drained.{sent_in, sent_from}
+use Rattle.forward_dispatch.specs.Streamed.{IsAnswered, AreLaneAnswers, lane_at}
+use Rattle.forward_dispatch.specs.Compared.{sent_in, sent_from}
 use Rattle.worker_pool.specs.Answered.{TellsFrames, HasAnswered, HaveAnswered}
 use Rattle.forward_run.specs.Explained.{AreGood}
 use Rattle.lane_worker.proofs.Fronts.{IsPrefix-refl, IsPrefix-trans}
-use Rattle.worker_pool.proofs.Standing.{IsPrefix-map}
 
 -- ---- fronts
 
 module _ {A : Type 0} where
-  -- of two fronts of one list the shorter is a front of the longer
-  shorter_front : (xs ys all : List A) → IsPrefix xs all → IsPrefix ys all → length xs ≤ length ys → IsPrefix xs ys
-  shorter_front [] ys all p q le = (ys, refl)
-  shorter_front (x ∷ xs) [] all p q le = absurd (omega (arith, le))
-  shorter_front (x ∷ xs) (y ∷ ys) [] p q le = absurd (let e = p.1 in cc)
-  shorter_front (x ∷ xs) (y ∷ ys) (a ∷ all) p q le =
-      let same : x ≡ y = (let e = p.1 in let f = q.1 in cc) in
-      let rest = shorter_front xs ys all (p.0, (let e = p.1 in cc)) (q.0, (let e = q.1 in cc)) (omega (arith, le)) in
-      (rest.0, (let e = rest.1 in cc))
-
-  no_front : (xs ys : List A) → IsPrefix xs ys → ys ≡ [] → xs ≡ []
-  no_front [] ys p none = refl
-  no_front (x ∷ xs) ys p none = absurd (let e = p.1 ∙ none in cc)
-
   front_at : (xs ys : List A) (i : ℕ) (d : A) → IsPrefix xs ys → i < length xs → get_or ys i d ≡ get_or xs i d
   front_at xs ys i d p lt = ap (λ l. get_or l i d) (sym p.1) ∙ get_or_append_left xs p.0 d i lt
 
@@ -71,25 +57,8 @@ module _ {A : Type 0} where
   front_length (x ∷ xs) [] p = absurd (let e = p.1 in cc)
   front_length (x ∷ xs) (y ∷ ys) p = let le = front_length xs ys (p.0, (let e = p.1 in cc)) in omega (arith, le)
 
--- ---- numbers of packets
-
-own_or_not : (b : Bool) (xs more : List ℕ) → IsPrefix xs (cond b (xs ++ more) xs)
-own_or_not true xs more = (more, refl)
-own_or_not false xs more = ([], append-nil xs)
-
-module _ (lane : ℕ → ℕ) (l : ℕ) where
-  numbers_behind : (n k : ℕ) → IsPrefix (numbers_of_share lane l n) (numbers_of_share lane l (k + n))
-  unfolding numbers_of_share
-  numbers_behind n zero = subst (λ m. IsPrefix (numbers_of_share lane l n) (numbers_of_share lane l m)) (let e : n ≡ zero + n = omega arith in e) (IsPrefix-refl (numbers_of_share lane l n))
-  numbers_behind n (suc k) =
-      subst (λ m. IsPrefix (numbers_of_share lane l n) (numbers_of_share lane l m)) (let e : suc (k + n) ≡ suc k + n = omega arith in e)
-      (IsPrefix-trans (numbers_of_share lane l n) (numbers_of_share lane l (k + n)) (numbers_of_share lane l (suc (k + n))) (numbers_behind n k)
-      (own_or_not (lane (k + n) == l) (numbers_of_share lane l (k + n)) ((k + n) ∷ [])))
-
-  numbers_front : (n m : ℕ) → n ≤ m → IsPrefix (numbers_of_share lane l n) (numbers_of_share lane l m)
-  numbers_front n m le =
-      let behind : (k : ℕ) × (k + n ≡ m) = (m - n, omega arith) in
-      subst (λ j. IsPrefix (numbers_of_share lane l n) (numbers_of_share lane l j)) behind.1 (numbers_behind n behind.0)
+  pub front_of_same : (xs ys : List A) → xs ≡ ys → IsPrefix xs ys
+  front_of_same xs ys same = subst (IsPrefix xs) same (IsPrefix-refl xs)
 
 -- ---- packets of frames
 
@@ -149,12 +118,24 @@ any_of [] k lt = absurd (omega (arith, lt))
 any_of (x ∷ xs) k lt = x
 
 -- into a ring into which nothing was sent before
-all_sent : (a b : Option (RingTx Answer)) (ring : RingTx Answer) (xs : List Answer) → a ≡ Some ring → sent ring ≡ [] → Sends a b xs → sent_in b ≡ xs
+all_sent : (a b : Option (RingTx AnswerBatch)) (ring : RingTx AnswerBatch) (xs : List Answer) → a ≡ Some ring → sent ring ≡ [] → Sends a b xs → sent_in b ≡ xs
 all_sent None b ring xs is none sends = absurd (cc)
 all_sent (Some a) None ring xs is none sends = absurd sends
 all_sent (Some a) (Some b) ring xs is none sends =
     let same : a ≡ ring = cc in
-    sends.1 ∙ ap (λ l. l ++ xs) (ap sent same ∙ none)
+    sends.1 ∙ ap (λ batches. answers_in batches ++ xs) (ap (λ (tx : RingTx AnswerBatch). sent tx) same ∙ none)
+
+-- ---- what has left
+
+-- packets that have left by these lanes have left by others that are the same for all packets that were sent
+pub left_by_others : (lane other : ℕ → ℕ) (n : ℕ) (given : ℕ → List Answer) (old new : Option (List ℕ))
+    → ((m : ℕ) → m ≤ n → (l : ℕ) → numbers_of_share other l m ≡ numbers_of_share lane l m) → HasLeft lane n given old new → HasLeft other n given old new
+left_by_others lane other n given old new shares h = record {
+  left = h.left;
+  within = h.within;
+  counted = λ l. h.counted l ∙ ap length (sym (shares h.left h.within l));
+  front = λ answer of. h.front answer (λ l. of l ∙ ap (map answer) (shares h.left h.within l));
+}
 
 abbrev pub blank : Captured
 blank = record { seconds = 0; fraction = 0; original = 0; head = []; bytes = [] }
@@ -170,15 +151,11 @@ ran_all g keep app script frames workers lanes came good l lt =
     let w = any_of workers l below in
     came.whole l w below (good l w below)
 
-pub front_of_same : {A : Type 0} (xs ys : List A) → xs ≡ ys → IsPrefix xs ys
-front_of_same xs ys same = subst (IsPrefix xs) same (IsPrefix-refl xs)
-
--- ---- what has left, where these are the verdicts of a run over the frames that are told
+-- ---- where these are the verdicts of a run over the frames that are told
 
 module _ {L : Type 0} (g : Ghosts L) (app : Meaning) (script : List Stamped) (frames told : List Captured) (begins workers : List (Worker L)) (all_answers : List LaneAnswers)
     (lanes : List (List LaneEvent))
-    (behind : IsPrefix frames told) (answered : HaveAnswered g app frames begins workers lanes) (are : AreLaneAnswers begins frames all_answers) (count : length begins ≡ length workers)
-    (lanes_count : length lanes ≡ length workers) (vs : List ℕ) where
+    (behind : IsPrefix frames told) (answered : HaveAnswered g app frames begins workers lanes) (are : AreLaneAnswers begins all_answers) (count : length begins ≡ length workers) (vs : List ℕ) where
   abbrev pub js : List (Arrival × Verdict)
   js = verdicts_under app (commands_of script) vs (arrivals 0 told)
 
@@ -229,12 +206,6 @@ module _ {L : Type 0} (g : Ghosts L) (app : Meaning) (script : List Stamped) (fr
       (λ ge. subst (λ xs. IsPrefix xs (answers_from l)) (sym (none_sent l ge)) (answers_from l, refl))
       (cases_lt l (length workers))
 
-  sent_whole : AreGood g workers → (l : ℕ) → sent_from workers l ≡ answers_from l
-  sent_whole good l = ⊎_elim
-      (λ lt. its_sent l lt ∙ (its l lt).whole frame_at tells (good l (any_of workers l lt) lt))
-      (λ ge. none_sent l ge ∙ ap (λ events. answers_to frame_at (verdicts_in app events)) (sym (get_or_past lanes l [] (omega (arith, lanes_count, ge)))))
-      (cases_lt l (length workers))
-
   -- ---- the lane of each packet
 
   module _ (all_judged : map (λ j. j.0) js ≡ arrivals 0 told)
@@ -261,67 +232,32 @@ module _ {L : Type 0} (g : Ghosts L) (app : Meaning) (script : List Stamped) (fr
     told_bytes : forwarded_numbers right (length js) ≡ forwarded (frame_bytes frame_at) js → forwarded_numbers right (length js) ≡ forwarded_with app script vs told
     told_bytes law = law ∙ left_is frame_at 0 js told all_judged (λ i d lt. ap frame_at (let e : 0 + i ≡ i = omega arith in e) ∙ told_tells i d lt)
 
-    -- ---- those taken are right
+    -- ---- what has left
 
-    module _ (taken_so_far : ℕ → List Answer) (are_sent : (l : ℕ) → IsPrefix (taken_so_far l) (sent_from workers l))
-        (right_front : (l : ℕ) → IsPrefix (answers_from l) (map right (numbers_of_share by_verdicts l (length js))))
-        (fronts_law : (taken left given : ℕ → List Answer) → ((l : ℕ) → taken l ++ left l ≡ given l) → ((l : ℕ) → IsPrefix (given l) (map right (numbers_of_share by_verdicts l (length frames))))
-        → AreFronts by_verdicts right (length frames) taken) where
-      taken_front : ((l : ℕ) → length (taken_so_far l) ≤ length (numbers_of_share by_verdicts l (length frames))) → (l : ℕ)
-          → IsPrefix (taken_so_far l) (map right (numbers_of_share by_verdicts l (length frames)))
-      taken_front few l =
-          let long : length (map right (numbers_of_share by_verdicts l (length frames))) ≡ length (numbers_of_share by_verdicts l (length frames)) =
-          length-map (numbers_of_share by_verdicts l (length frames)) right in
-          shorter_front (taken_so_far l) (map right (numbers_of_share by_verdicts l (length frames))) (map right (numbers_of_share by_verdicts l (length js)))
-          (IsPrefix-trans (taken_so_far l) (answers_from l) (map right (numbers_of_share by_verdicts l (length js)))
-          (IsPrefix-trans (taken_so_far l) (sent_from workers l) (answers_from l) (are_sent l) (sent_front l)) (right_front l))
-          (IsPrefix-map right (numbers_of_share by_verdicts l (length frames)) (numbers_of_share by_verdicts l (length js)) (numbers_front by_verdicts l (length frames) (length js) sent_are_told))
-          (let le = few l in omega (arith, long, le))
+    module _ (given : ℕ → List Answer) (old new : Option (List ℕ)) (are_sent : (l : ℕ) → IsPrefix (given l) (sent_from workers l))
+        (right_answers : (l : ℕ) → IsPrefix (answers_from l) (map right (numbers_of_share by_verdicts l (length js))))
+        (bytes : forwarded_numbers right (length js) ≡ forwarded (frame_bytes frame_at) js) where
+      -- the answers by which packets have left are the first of the right ones
+      given_front : (l : ℕ) → IsPrefix (given l) (map right (numbers_of_share by_verdicts l (length js)))
+      given_front l =
+          IsPrefix-trans (given l) (answers_from l) (map right (numbers_of_share by_verdicts l (length js)))
+          (IsPrefix-trans (given l) (sent_from workers l) (answers_from l) (are_sent l) (sent_front l)) (right_answers l)
 
-      pub are_fronts : ((l : ℕ) → length (taken_so_far l) ≤ length (numbers_of_share by_verdicts l (length frames))) → AreFronts by_verdicts right (length frames) taken_so_far
-      are_fronts few = fronts_law taken_so_far (λ l. []) taken_so_far (λ l. append-nil (taken_so_far l)) (taken_front few)
+      -- a front was written
+      pub left_front : ((n : ℕ) → ((i : ℕ) → i < n → by_verdicts i ≡ by_frames i) → (l : ℕ) → numbers_of_share by_verdicts l n ≡ numbers_of_share by_frames l n)
+          → (length frames ≤ length js → ((l : ℕ) → IsPrefix (given l) (map right (numbers_of_share by_verdicts l (length js)))) → HasLeft by_verdicts (length frames) given old new
+          → AppendsFront old new (forwarded_numbers right (length js)))
+          → HasLeft by_frames (length frames) given old new → AppendsFront old new (forwarded_with app script vs told)
+      left_front share_law front_law h =
+          subst (AppendsFront old new) (told_bytes bytes)
+          (front_law sent_are_told given_front
+          (left_by_others by_frames by_verdicts (length frames) given old new (λ m le l. share_law m (λ i lt. same_lanes i (omega (arith, lt, le))) l) h))
 
-      module _ (keeps_law : (s : Leaving) → Keeps by_frames (length frames) taken_so_far s → Keeps by_verdicts (length frames) taken_so_far s) (indexed : AreIndexed right)
-          (bytes : forwarded_numbers right (length js) ≡ forwarded (frame_bytes frame_at) js) where
-        -- a front was written
-        module _ (whole_law : (s : Leaving) → Keeps by_verdicts (length frames) taken_so_far s → AreIndexed right → AreFronts by_verdicts right (length frames) taken_so_far → length frames ≤ length js
-            → IsPrefix s.out (forwarded_numbers right (length js)))
-            (cut_law : (s : Leaving) (a : Answer) (part : List ℕ) → Keeps by_verdicts (length frames) taken_so_far s → AreIndexed right → AreFronts by_verdicts right (length frames) taken_so_far
-            → length frames ≤ length js
-            → first_of s.waiting ≡ Some a → IsPrefix part (bytes_out a) → IsPrefix (s.out ++ part) (forwarded_numbers right (length js))) where
-          part_where : (s : Leaving) (part : List ℕ) (o : Option Answer) → Keeps by_verdicts (length frames) taken_so_far s → first_of s.waiting ≡ o → IsPrefix part (bytes_of_first o)
-              → IsPrefix (s.out ++ part) (forwarded_numbers right (length js))
-          part_where s part None keeps first p =
-              subst (λ l. IsPrefix l (forwarded_numbers right (length js))) (sym (ap (λ l. s.out ++ l) (no_front part [] p refl) ∙ append-nil s.out))
-              (whole_law s keeps indexed (are_fronts keeps.sent) sent_are_told)
-          part_where s part (Some a) keeps first p = cut_law s a part keeps indexed (are_fronts keeps.sent) sent_are_told first p
-
-          pub left_front : (old new : Option (List ℕ)) → HasLeft by_frames (length frames) taken_so_far old new → AppendsFront old new (forwarded_with app script vs told)
-          left_front old new h =
-              let p = part_where h.state h.part (first_of h.state.waiting) (keeps_law h.state h.keeps) refl h.cut in
-              record { front = h.state.out ++ h.part; rest = p.0; added = h.written; whole = sym (p.1 ∙ told_bytes bytes) }
-
-        -- all was written
-        module _ (n_told : length js ≡ length frames) (good : AreGood g workers)
-            (right_whole : (l : ℕ) → answers_from l ≡ map right (numbers_of_share by_verdicts l (length js)))
-            (share_law : (l : ℕ) → numbers_of_share by_verdicts l (length frames) ≡ numbers_of_share by_frames l (length frames))
-            (out_law : (s : Leaving) → Keeps by_verdicts (length frames) taken_so_far s → AreIndexed right → AreFronts by_verdicts right (length frames) taken_so_far
-            → ((l : ℕ) → length (taken_so_far l) ≡ length (numbers_of_share by_verdicts l (length frames))) → first_of s.waiting ≡ None → s.out ≡ forwarded_numbers right (length frames))
-            (all_taken : (l : ℕ) → (taken_so_far l ≡ sent_from workers l) ⊎ (length (numbers_of_share by_frames l (length frames)) ≤ length (taken_so_far l))) where
-          sent_count : (l : ℕ) → length (sent_from workers l) ≡ length (numbers_of_share by_verdicts l (length frames))
-          sent_count l = ap length (sent_whole good l ∙ right_whole l) ∙ length-map (numbers_of_share by_verdicts l (length js)) right ∙ ap (λ n. length (numbers_of_share by_verdicts l n)) n_told
-
-          taken_count : ((l : ℕ) → length (taken_so_far l) ≤ length (numbers_of_share by_verdicts l (length frames))) → (l : ℕ)
-              → length (taken_so_far l) ≡ length (numbers_of_share by_verdicts l (length frames))
-          taken_count few l = ⊎_elim
-              (λ all. ap length all ∙ sent_count l)
-              (λ enough. let e = ap length (share_law l) in let le = few l in omega (arith, e, le, enough))
-              (all_taken l)
-
-          pub left_all : (waiting : Waiting) (old new : Option (List ℕ)) → Leaves by_frames (length frames) taken_so_far waiting old new → first_of waiting ≡ None
-              → Appends old new (forwarded_with app script vs told)
-          left_all waiting old new l none =
-              let keeps = keeps_law l.state l.keeps in
-              let out : l.state.out ≡ forwarded_numbers right (length frames) =
-              out_law l.state keeps indexed (are_fronts keeps.sent) (taken_count keeps.sent) (ap first_of l.waits ∙ none) in
-              subst (Appends old new) (out ∙ ap (forwarded_numbers right) (sym n_told) ∙ told_bytes bytes) l.written
+      -- all was written
+      pub left_all : length js ≡ length frames
+          → (((l : ℕ) → IsPrefix (given l) (map right (numbers_of_share by_verdicts l (length frames)))) → HaveLeft by_frames (length frames) given old new
+          → Appends old new (forwarded_numbers right (length frames)))
+          → HaveLeft by_frames (length frames) given old new → Appends old new (forwarded_with app script vs told)
+      left_all n_told all_law h =
+          subst (Appends old new) (ap (forwarded_numbers right) (sym n_told) ∙ told_bytes bytes)
+          (all_law (λ l. subst (λ n. IsPrefix (given l) (map right (numbers_of_share by_verdicts l n))) n_told (given_front l)) h)

@@ -10,13 +10,11 @@ use Rattle.worker_pool.proofs.Reading.{read_none}
 pub unread : (capture : CaptureState) (left : Option (List ℕ)) → capture.count ≡ 0 → GoesOn capture capture left left
 unread capture left none = record { frames = []; count = none; read = λ bytes told. read_none capture bytes left told }
 
--- the dispatcher's error is told, or a fault of writing in its place
+-- the dispatcher's error is told
 pub told_last : {T U : Type 0} (read : Result T PoolError) (result : Result U PoolError) → (read ≡ Err WriteFault) ⊎ (read ≡ Err NoMemory)
-    → IfErr read (λ e. (result ≡ Err e) ⊎ (result ≡ Err WriteFault)) → (result ≡ Err WriteFault) ⊎ (result ≡ Err NoMemory)
+    → IfErr read (λ e. result ≡ Err e) → (result ≡ Err WriteFault) ⊎ (result ≡ Err NoMemory)
 told_last (Ok whole) result is told = ⊎_elim (λ e. absurd (cc)) (λ e. absurd (cc)) is
 told_last (Err e) result is told =
     ⊎_elim
-    (λ same. ⊎_elim
-    (λ writes. inl (same ∙ ap Err (let value : e ≡ WriteFault = cc in value)))
-    (λ lacks. inr (same ∙ ap Err (let value : e ≡ NoMemory = cc in value))) is)
-    (λ writes. inl writes) told
+    (λ writes. inl (told ∙ ap Err (let value : e ≡ WriteFault = cc in value)))
+    (λ lacks. inr (told ∙ ap Err (let value : e ≡ NoMemory = cc in value))) is

@@ -15,9 +15,7 @@ ghost use Rattle.forward_dispatch.specs.Streamed.{AreLaneAnswers};
 ghost use Rattle.forward_run.specs.Explained.{AreGood, LeavesFront, LeavesAll};
 
 use control_script::Script;
-use lane_composition::forward::{
-    a_front_was_written, all_was_written, later_lanes_change_nothing, taken_are_right,
-};
+use lane_composition::forward::{later_lanes_change_nothing, what_left_is_right};
 use lane_composition::packets::{packets_go_to_lanes, packets_of_a_capture_rise};
 use lane_composition::runs::{fronts_are_of_one_run, lanes_are_one_run, verdicts_of_a_run};
 use lane_composition::streaming::{a_lane_answers_its_part, lanes_answer_as_the_run};
@@ -26,19 +24,19 @@ use lane_worker::Worker;
 use worker_pool::team::ends::lanes_have_come;
 
 /// What leaves by the answers of workers that have served the packets of a capture is what their verdicts leave, under
-/// versions that the run may have: a front of it in any case, and all of it where all was taken and no lane failed.
+/// versions that the run may have: a front of it in any case, and all of it where all packets have left and no lane failed.
 /// This function does nothing: who ends a forward run calls it for what it says.
 pub(crate) fn lanes_have_answered<L: Recorder + Drop>(script: &Script, workers: &[Worker<L>])
     ensures front { (app : Meaning) (frames told : List Captured) (begins : List (Begun L))
         (packets : List (RingTx Batch)) (all_answers : List Answers)
         → length frames ≤ 1048576 → IsTeam L.Recorder app begins packets → AllKeep L.Recorder false begins
-        → HaveServed L.Recorder script.now begins frames workers.now → AreLaneAnswers begins frames all_answers
+        → HaveServed L.Recorder script.now begins frames workers.now → AreLaneAnswers begins all_answers
         → IsPrefix frames told
         → LeavesFront app script.now frames told workers.now }
     ensures whole { (app : Meaning) (frames : List Captured) (begins : List (Begun L)) (packets : List (RingTx Batch))
         (all_answers : List Answers)
         → length frames ≤ 1048576 → IsTeam L.Recorder app begins packets → AllKeep L.Recorder false begins
-        → HaveServed L.Recorder script.now begins frames workers.now → AreLaneAnswers begins frames all_answers
+        → HaveServed L.Recorder script.now begins frames workers.now → AreLaneAnswers begins all_answers
         → (lanes : List (List LaneEvent)) × CameTo L.Recorder false app script.now frames workers.now lanes
         × (AreGood L.Recorder workers.now → LeavesAll app script.now frames workers.now lanes) }
 {
@@ -51,7 +49,5 @@ pub(crate) fn lanes_have_answered<L: Recorder + Drop>(script: &Script, workers: 
     a_lane_answers_its_part();
     lanes_answer_as_the_run();
     later_lanes_change_nothing();
-    taken_are_right();
-    a_front_was_written();
-    all_was_written();
+    what_left_is_right();
 }

@@ -34,7 +34,7 @@ impl<'a, R: Wait, L: Recorder + Drop, S: Source, O: Sink, G: Gate> Feed<L>
     ghost may = { λ d begins. MayStream begins d.capture.now d.dealing.now (O.taken d.out.now) };
 
     ghost did = { λ d e begins frames result.
-        Streamed begins frames e.dealing.now.all_answers.items e.dealing.now.waiting d.capture.now (S.left d.source.now)
+        Streamed begins frames e.dealing.now.way.all_answers.items d.capture.now (S.left d.source.now)
         (S.left e.source.now) (O.taken d.out.now) (O.taken e.out.now) result
         × ReadsAndWrites S.Source O.Sink d.capture.now e.capture.now d.source.now e.source.now d.out.now e.out.now result
         × (e.dealing.ghost_name ≡ d.dealing.ghost_name)

@@ -21,7 +21,6 @@ use crate::make::make_forward_team;
 use app_api::App;
 use control_script::Script;
 use forward_dispatch::Dealing;
-use lane_composition::forward::beginning_is_right;
 use lane_composition::packets::packets_of_a_capture_rise;
 use lane_composition::runs::ceilings_are_allowed;
 use lane_composition::versions::a_script_gives_floors_and_ceilings;
@@ -68,7 +67,7 @@ fn stream_lent<
     requires team { CanRun L.Recorder context.now.script.now team.workers.items team.packets.items }
     requires may { MayStream team.workers.items capture.old dealing.old (O.taken out.old) }
     ensures served { IfOk result (λ r. Served L.Recorder context.now.script.now team.workers.items r.1.items
-        (λ frames. Streamed team.workers.items frames dealing.new.all_answers.items dealing.new.waiting
+        (λ frames. Streamed team.workers.items frames dealing.new.way.all_answers.items
         capture.old (S.left source.old) (S.left source.new) (O.taken out.old) (O.taken out.new) r.0)) }
     ensures outside { IfOk result (λ r. ReadsAndWrites S.Source O.Sink capture.old capture.new source.old source.new
         out.old out.new r.0) }
@@ -104,7 +103,7 @@ fn stream_team<
     requires team { CanRun L.Recorder context.now.script.now team.workers.items team.packets.items }
     requires may { MayStream team.workers.items capture.old dealing.old (O.taken out.old) }
     ensures served { IfOk result (λ r. Served L.Recorder context.now.script.now team.workers.items r.1.items
-        (λ frames. Streamed team.workers.items frames dealing.new.all_answers.items dealing.new.waiting
+        (λ frames. Streamed team.workers.items frames dealing.new.way.all_answers.items
         capture.old (S.left source.old) (S.left source.new) (O.taken out.old) (O.taken out.new) r.0)) }
     ensures outside { IfOk result (λ r. ReadsAndWrites S.Source O.Sink capture.old capture.new source.old source.new
         out.old out.new r.0) }
@@ -167,9 +166,9 @@ pub fn forward_lanes<
         × GoesOn capture.old capture.new (S.left source.old) (S.left source.new) }
 {
     nothing_is_a_front(context.script);
-    beginning_is_right();
-    let (team, all_answers) = make_forward_team(context, app, workers)?;
-    let mut dealing = Dealing::new(context.alloc, all_answers)?;
+    let (team, all_answers, used) = make_forward_team(context, app, workers)?;
+    let mut dealing = Dealing::new(context.alloc, all_answers, used)?;
     let (read, served) = stream_team(context, team, &mut dealing, capture, source, out)?;
-    leave(context, served, dealing, read, capture, out)
+    let Dealing { way, .. } = dealing;
+    leave(context, served, way.all_answers, read)
 }

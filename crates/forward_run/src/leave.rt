@@ -1,7 +1,6 @@
 //! The end of a forward run whose threads have ended.
 
-ghost use Rattle.std.specs.Prelude.{◌≡◌, ◌≢◌, ◌≤◌, ◌⊎◌, [], List, Option, ℕ, Some, Err, IsOk, IfOk, IfErr, IsErrOf, length, true, false};
-ghost use Rattle.mos_bytes.specs.Causes.{Rose};
+ghost use Rattle.std.specs.Prelude.{◌≡◌, ◌≢◌, ◌≤◌, ◌⊎◌, [], List, Option, ℕ, Some, Err, IsOk, IfOk, IfErr, IsErrOf, length, false};
 ghost use Rattle.app_api.specs.App.{Meaning};
 ghost use Rattle.pcap_source.specs.Captured.{Captured};
 ghost use Rattle.pcap_source.specs.Reading.{CaptureState, frames_at};
@@ -23,14 +22,12 @@ ghost use Rattle.forward_run.specs.Forward.{ForwardsOver};
 
 use crate::explain::lanes_have_answered;
 use flow_timers::Moment;
-use forward_dispatch::{Dealing, drain, write_ready};
+use forward_dispatch::{LaneAnswers, compare};
 use lane_composition::packets::packets_of_a_capture_rise;
 use lane_composition::runs::a_run_has_its_versions;
 use lane_core::Reporter;
 use lane_join::join;
 use lane_worker::{Worker, WorkerContext};
-use mos_bytes::Sink;
-use pcap_source::Capture;
 use std::thread::Threads;
 use worker_pool::team::dispatch::Whole;
 use worker_pool::team::ends::ends_of;
@@ -61,69 +58,41 @@ fn versions_in<R: Threads + Sync, L: Reporter + Drop + Send, G>(
     Ok(versions)
 }
 
-// Whether the dispatcher ended with a fault of writing.
-fn is_write_fault(read: &Result<Whole, PoolError>) -> bool
-    ensures fault { result ≡ true → read.now ≡ Err PoolError.WriteFault }
-    ensures other { result ≡ false → read.now ≢ Err PoolError.WriteFault }
-{
-    match read {
-        Err(PoolError::WriteFault) => true,
-        _ => false,
-    }
-}
-
-/// Ends a forward run whose workers have ended: writes what they have answered and what hasn't left yet, up to the
-/// first packet that no lane answered, and answers the versions of the records.
+/// Ends a forward run whose workers have ended, and answers the versions of the records. What leaves was written before.
 ///
-/// `read` is what the dispatcher ended with; its error is told. Nothing more is written where it is a fault of writing.
-/// Of other errors a fault of writing here comes first, then that of `read`, then that a lane failed.
-pub(crate) fn leave<R: Threads + Sync, L: Reporter + Drop + Send, O: Sink, G>(
+/// `read` is what the dispatcher ended with; its error is told. Other errors are that a lane failed, or want of memory.
+pub(crate) fn leave<R: Threads + Sync, L: Reporter + Drop + Send, G>(
     context: &WorkerContext<'_, R, G>,
     workers: Vec<Worker<L>>,
-    dealing: Dealing<L>,
+    all_answers: Vec<LaneAnswers>,
     read: Result<Whole, PoolError>,
-    capture: &Capture,
-    out: &mut O,
 ) -> Result<VersionList, PoolError>
     requires served { (app : Meaning) × (frames : List Captured) × (begins : List (Begun L))
         × (packets : List (RingTx Batch))
         × IsTeam L.Recorder app begins packets × HaveServed L.Recorder context.now.script.now begins frames workers.items
-        × AreLaneAnswers begins frames dealing.all_answers.items }
+        × AreLaneAnswers begins all_answers.items }
     ensures ends { (app : Meaning) (frames : List Captured) (begins : List (Begun L)) (packets : List (RingTx Batch))
-        (start : CaptureState) (old new before : Option (List ℕ)) (rest : List ℕ)
+        (start : CaptureState) (old new before after : Option (List ℕ)) (rest : List ℕ)
         → length frames ≤ 1048576 → IsTeam L.Recorder app begins packets → AllKeep L.Recorder false begins
         → HaveServed L.Recorder context.now.script.now begins frames workers.items
-        → Streamed begins frames dealing.all_answers.items dealing.waiting start old new before (O.taken out.old) read
+        → Streamed begins frames all_answers.items start old new before after read
         → old ≡ Some rest
-        → ForwardsOver app context.now.script.now (length begins) (frames_at start rest) before (O.taken out.new) result }
+        → ForwardsOver app context.now.script.now (length begins) (frames_at start rest) before after result }
     ensures never_heavy { (app : Meaning) (frames : List Captured) (begins : List (Begun L))
         (packets : List (RingTx Batch))
-        (start : CaptureState) (old new before : Option (List ℕ))
+        (start : CaptureState) (old new before after : Option (List ℕ))
         → length frames ≤ 1048576 → IsTeam L.Recorder app begins packets → AllKeep L.Recorder false begins
         → HaveServed L.Recorder context.now.script.now begins frames workers.items
-        → Streamed begins frames dealing.all_answers.items dealing.waiting start old new before (O.taken out.old) read
+        → Streamed begins frames all_answers.items start old new before after read
         → IfErr result (λ e. e ≢ PoolError.Heavy) }
     ensures ok { IsOk result → IsOk read }
-    ensures error { IfErr read (λ e. (result ≡ Err e) ⊎ (result ≡ Err PoolError.WriteFault)) }
+    ensures error { IfErr read (λ e. result ≡ Err e) }
     ensures read_fault { IsErrOf result PoolError.ReadFault → IsErrOf read PoolError.ReadFault }
-    ensures write_fault { IsErrOf result PoolError.WriteFault → IsErrOf read PoolError.WriteFault
-        ⊎ Rose (O.faults out.old) (O.faults out.new) }
-    ensures counts { O.faults out.old ≤ O.faults out.new }
-    ensures lasts { O.lasting out.new ≡ O.lasting out.old }
+    ensures write_fault { IsErrOf result PoolError.WriteFault → IsErrOf read PoolError.WriteFault }
 {
     lanes_have_answered(context.script, workers.as_slice());
     let mut workers = workers;
-    let Dealing {
-        mut all_answers,
-        mut waiting,
-        mut spare,
-        ..
-    } = dealing;
-    drain(&mut workers, &mut all_answers, &mut waiting);
-    if is_write_fault(&read) {
-        return Err(PoolError::WriteFault);
-    }
-    write_ready(&mut waiting, capture, out, &mut spare)?;
+    compare(&mut workers, all_answers);
     match read {
         Ok(whole) => versions_in(context, workers, whole.last),
         Err(error) => Err(error),

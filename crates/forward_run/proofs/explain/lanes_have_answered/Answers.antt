@@ -29,20 +29,16 @@ returns-clause-front g c app frames told begins packets all_answers few team kep
     let by_verdicts = lane_in key js past in
     let judged = c.verdicts_of_a_run.ensures.packets app commands (arrivals 0 told) vs in
     let dealt = c.packets_go_to_lanes.ensures.frame (length workers) in
-    let agree = same_lanes g.L.Recorder app script frames told begins workers all_answers lanes behind found.2 are served.count found.1.count vs judged dealt in
     record {
       versions = vs;
       may_have = run.1;
-      front = λ taken old new are_sent left.
-          left_front g.L.Recorder app script frames told begins workers all_answers lanes behind found.2 are served.count found.1.count vs judged dealt taken are_sent
+      front = λ given old new are_sent left.
+          left_front g.L.Recorder app script frames told begins workers all_answers lanes behind found.2 are served.count vs judged dealt given old new are_sent
           (λ l. c.lanes_answer_as_the_run.ensures.fronts app commands key told lanes vs frame_of past l run.2)
-          (λ t l given joined front. c.taken_are_right.ensures.fronts by_verdicts right (length frames) t l given joined front)
-          (λ s keeps. c.later_lanes_change_nothing.ensures.keeps (lane_at (length workers) frames) by_verdicts (length frames) taken s agree keeps)
-          (c.a_lane_answers_its_part.ensures.indexed frame_of js past)
           (c.lanes_answer_as_the_run.ensures.bytes app commands told vs frame_of past)
-          (λ s keeps indexed fronts le. c.a_front_was_written.ensures.whole_records by_verdicts right (length frames) (length js) taken s keeps indexed fronts le)
-          (λ s a part keeps indexed fronts le first cut. c.a_front_was_written.ensures.cut_record by_verdicts right (length frames) (length js) taken s a part keeps indexed fronts le first cut)
-          old new left;
+          (λ n agree l. c.later_lanes_change_nothing.ensures.share (lane_at (length workers) frames) by_verdicts n agree l)
+          (λ le right_answers h. c.what_left_is_right.ensures.front by_verdicts right (length frames) (length js) given old new le right_answers h)
+          left;
     }
 
 pub returns-clause-whole : goal.returns-clause-whole
@@ -66,23 +62,18 @@ returns-clause-whole g c app frames begins packets all_answers few team kept ser
           let behind = IsPrefix-refl frames in
           let judged = c.verdicts_of_a_run.ensures.packets app commands (arrivals 0 frames) vs in
           let dealt = c.packets_go_to_lanes.ensures.frame (length workers) in
-          let agree = same_lanes g.L.Recorder app script frames frames begins workers all_answers lanes behind found.2 are served.count found.1.count vs judged dealt in
+          let agree = same_lanes g.L.Recorder app script frames frames begins workers all_answers lanes behind found.2 are served.count vs judged dealt in
           record {
             versions = vs;
             may_have = run.1;
             one = run.2;
-            all = λ taken waiting old new are_sent all_taken leaves none.
-                left_all g.L.Recorder app script frames frames begins workers all_answers lanes behind found.2 are served.count found.1.count vs judged dealt taken are_sent
+            all = λ given old new are_sent left.
+                left_all g.L.Recorder app script frames frames begins workers all_answers lanes behind found.2 are served.count vs judged dealt given old new are_sent
                 (λ l. front_of_same _ _ (c.lanes_answer_as_the_run.ensures.whole app commands key frames lanes vs frame_of past l run.2))
-                (λ t l given joined front. c.taken_are_right.ensures.fronts by_verdicts right (length frames) t l given joined front)
-                (λ s keeps. c.later_lanes_change_nothing.ensures.keeps (lane_at (length workers) frames) by_verdicts (length frames) taken s agree keeps)
-                (c.a_lane_answers_its_part.ensures.indexed frame_of js past)
                 (c.lanes_answer_as_the_run.ensures.bytes app commands frames vs frame_of past)
-                (js_count g.L.Recorder app script frames frames begins workers all_answers lanes behind found.2 are served.count found.1.count vs judged dealt)
-                good
-                (λ l. c.lanes_answer_as_the_run.ensures.whole app commands key frames lanes vs frame_of past l run.2)
-                (λ l. c.later_lanes_change_nothing.ensures.share (lane_at (length workers) frames) by_verdicts (length frames) agree l)
-                (λ s keeps indexed fronts counts first. c.all_was_written.ensures.out by_verdicts right (length frames) taken s keeps indexed fronts counts first)
-                all_taken waiting old new leaves none;
+                (js_count g.L.Recorder app script frames frames begins workers all_answers lanes behind found.2 are served.count vs judged dealt)
+                (λ right_answers h. c.what_left_is_right.ensures.all by_verdicts right (length frames) given old new right_answers
+                (c.later_lanes_change_nothing.ensures.left (lane_at (length workers) frames) by_verdicts (length frames) given old new agree h))
+                left;
           },
     )

@@ -1,7 +1,7 @@
 use denote.Exit.{yes}
 use denote.Param.{copied}
 use denote.Param.Send.{param_send, arg_send}
-use Rattle.std.proofs.Common.{◌∙◌, [], List, refl, sym, ap, subst, inl, inr, Err, length, ⊎_elim, arith}
+use Rattle.std.proofs.Common.{◌∙◌, refl, sym, ap, subst, inl, inr, Err}
 use Rattle.std.proofs.lemmas.Result.{err_from_is_err_and}
 use Rattle.std.specs.Prelude.{IsErrOf}
 use Rattle.mos_bytes.specs.Outside.{Writes}
@@ -11,11 +11,9 @@ use Rattle.shared_forest.specs.contracts.store_user.StoreUserForestView.TheImpl 
 use Rattle.lane_core.proofs.Handed.{lane_send}
 use Rattle.worker_pool.specs.declared.job.PoolError.TheVariants.{WriteFault}
 use Rattle.forward_run.specs.Forward.{ForwardsOver}
-use Rattle.forward_dispatch.specs.declared.lane_answers.LaneAnswers.{LaneAnswers}
-use Rattle.forward_dispatch.specs.Streamed.{AreLaneAnswers, Leaves, lane_at, taken_from}
+use Rattle.forward_dispatch.specs.Streamed.{AreLaneAnswers}
 use Rattle.forward_run.proofs.Stopping.{unread, told_last}
-use Rattle.mos_bytes.proofs.Causes.{Rose-earlier}
-use Rattle.forward_run.proofs.Forwarding.{run_begins, ended_early, no_fault_early, read_all, rose_before}
+use Rattle.forward_run.proofs.Forwarding.{ended_early, no_fault_early, read_all}
 use Rattle.worker_pool.proofs.Source.{reads_less, reads_nothing}
 use Rattle.forward_run.proofs.lanes.forward_lanes.Goals as goal
 
@@ -31,18 +29,11 @@ leave-requires-send-L g c κs within =
 
 pub stream_team-requires-clause-may : goal.stream_team-requires-clause-may
 stream_team-requires-clause-may g c κs within =
-    let all_answers = c.in_ok-team.all_answers.items in
     let dealing = c.in_ok-dealing.ensures in
-    let waiting = c.in_ok-dealing.dealing.waiting in
-    let out = g.O.Sink.taken c.args.out.now in
     record {
       opened = c.requires.opened;
-      all_answers_are = subst (λ (a : List LaneAnswers). AreLaneAnswers c.in_ok-team.team.workers.items [] a) (sym dealing.answers) c.in_ok-team.ensures.all_answers.all_answers_are;
-      none_left = subst (λ (a : List LaneAnswers). Leaves (lane_at (length a) []) 0 (taken_from a) waiting out out) (sym dealing.answers)
-          (run_begins c.in_ok-team.team.workers.items all_answers waiting out c.in_ok-team.ensures.all_answers
-          (c.beginning_is_right.ensures.keeps (lane_at (length all_answers) []) waiting 4096 dealing.next dealing.window));
-      places = dealing.places;
-      packets = dealing.packets;
+      all_answers_are = subst (AreLaneAnswers c.in_ok-team.team.workers.items) (sym dealing.answers) c.in_ok-team.ensures.all_answers.all_answers_are;
+      none_left = dealing.leaves (g.O.Sink.taken c.args.out.now);
       last = dealing.last;
     }
 
@@ -69,10 +60,12 @@ returns-clause-forwards g c = λ rest is.
     let app = g.A.App.meaning c.args.app.now in
     let script = c.args.context.now.script.now in
     let s = c.in_ok-read.ensures.served in
+    let before = g.O.Sink.taken c.args.out.now in
+    let after = g.O.Sink.taken c.stream_team.new.out in
     let over = c.leave.ensures.ends app s.frames c.in_ok-team.team.workers.items c.in_ok-team.team.packets.items c.args.capture.now
-    (g.S.Source.left c.args.source.now) (g.S.Source.left c.stream_team.new.source) (g.O.Sink.taken c.args.out.now) rest
+    (g.S.Source.left c.args.source.now) (g.S.Source.left c.stream_team.new.source) before after rest
     s.few c.in_ok-team.ensures.team c.in_ok-team.ensures.keep s.served s.done is in
-    subst (λ n. ForwardsOver app script n (frames_at c.args.capture.now rest) (g.O.Sink.taken c.args.out.now) (g.O.Sink.taken c.leave.new.out) c.leave.result) c.in_ok-team.ensures.count over
+    subst (λ n. ForwardsOver app script n (frames_at c.args.capture.now rest) before after c.leave.result) c.in_ok-team.ensures.count over
 
 pub returns-clause-read : goal.returns-clause-read
 returns-clause-read g c = λ ok rest is.
@@ -86,16 +79,9 @@ returns-clause-reads g c =
 pub returns-clause-writes : goal.returns-clause-writes
 returns-clause-writes g c =
     let before = c.in_ok-read.ensures.outside.writes in
-    let then = c.leave.ensures.counts in
     record {
-      cause = record {
-        later = let e = before.cause.later in omega (arith, e, then);
-        cause = λ fault. ⊎_elim
-            (λ told. rose_before (g.O.Sink.faults c.args.out.now) (g.O.Sink.faults c.stream_team.new.out) (g.O.Sink.faults c.leave.new.out) (before.cause.cause told) then)
-            (λ rose. Rose-earlier (g.O.Sink.faults c.args.out.now) (g.O.Sink.faults c.stream_team.new.out) (g.O.Sink.faults c.leave.new.out) before.cause.later rose)
-            (c.leave.ensures.write_fault fault);
-      };
-      lasts = c.leave.ensures.lasts ∙ before.lasts;
+      cause = record { later = before.cause.later; cause = λ fault. before.cause.cause (c.leave.ensures.write_fault fault) };
+      lasts = before.lasts;
     }
 
 pub returns-in_err-dealing-clause-never_heavy : goal.returns-in_err-dealing-clause-never_heavy
@@ -112,7 +98,7 @@ pub returns-clause-never_heavy : goal.returns-clause-never_heavy
 returns-clause-never_heavy g c =
     let s = c.in_ok-read.ensures.served in
     c.leave.ensures.never_heavy (g.A.App.meaning c.args.app.now) s.frames c.in_ok-team.team.workers.items c.in_ok-team.team.packets.items c.args.capture.now
-    (g.S.Source.left c.args.source.now) (g.S.Source.left c.stream_team.new.source) (g.O.Sink.taken c.args.out.now)
+    (g.S.Source.left c.args.source.now) (g.S.Source.left c.stream_team.new.source) (g.O.Sink.taken c.args.out.now) (g.O.Sink.taken c.stream_team.new.out)
     s.few c.in_ok-team.ensures.team c.in_ok-team.ensures.keep s.served s.done
 
 pub returns-in_err-team-clause-stopped : goal.returns-in_err-team-clause-stopped

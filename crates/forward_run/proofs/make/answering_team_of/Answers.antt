@@ -1,8 +1,8 @@
-use Rattle.std.proofs.Common.{◌+◌, ◌∙◌, refl, sym, ap, length}
+use Rattle.std.proofs.Common.{◌+◌, ◌∙◌, ap, length}
+use Rattle.std.proofs.lemmas.List.{length_push}
 use Rattle.std.proofs.lemmas.Result.{IfOk-at_ok}
 use Rattle.worker_pool.specs.Making.{IsFresh}
 use Rattle.worker_pool.proofs.Making.{none_begun}
-use Rattle.forward_dispatch.specs.declared.lane_answers.LaneAnswers.{LaneAnswers}
 use Rattle.forward_run.proofs.Forwarding.{none_unused, more_unused}
 use Rattle.forward_run.proofs.make.answering_team_of.Goals as goal
 
@@ -10,18 +10,18 @@ pub loop-preserved : goal.loop-preserved
 loop-preserved g c =
     let added = c.in_ok-enlist.ensures.added in
     let ring = c.in_ok-answers_tx.ensures in
-    let lane_answers : LaneAnswers = record { answers = c.in_ok-answers_tx.answers; sent = 0; taken = 0 } in
-    let items = c.in_ok-push.ensures.items in
+    let lane_answers = c.new-in-loop in
     record {
       callable = c.loop.invariant.callable;
       begun = λ app keep fresh.
           c.in_ok-enlist.ensures.begun app keep
           (IfOk-at_ok (λ lane. IsFresh g.L.Recorder app keep lane) c.in_ok-lane.was (fresh c.make.result c.make.ensures))
           (c.loop.invariant.begun app keep fresh);
-      all_answers = rw (added.2, items) (more_unused c.loop.team.workers.items c.loop.all_answers.items added.0 lane_answers c.loop.invariant.all_answers
-          (record { ring = c.in_ok-answers_tx.answers_tx; answers = added.1; unsent = ring.sent.0; ends = ring.ends })
-          refl (sym (ap length ring.taken.0)) ring.taken.0);
+      all_answers = rw (added.2, c.in_ok-push.ensures.items) (more_unused c.loop.team.workers.items c.loop.all_answers.items added.0 lane_answers.result c.loop.invariant.all_answers
+          (record { ring = c.in_ok-answers_tx.answers_tx; answers = added.1; unsent = ring.sent.0; ends = rw lane_answers.ensures.ring ring.ends })
+          lane_answers.ensures.given);
       count = c.in_ok-enlist.ensures.count ∙ ap (λ n. n + 1) c.loop.invariant.count;
+      used = rw (c.in_ok-push-2.ensures.items, length_push, c.loop.invariant.used);
     }
 
 pub loop-init : goal.loop-init
@@ -30,4 +30,5 @@ loop-init g c = record {
   begun = λ app keep fresh. rw (c.new.ensures.items, c.new-2.ensures.items) (none_begun g.L.Recorder app keep);
   all_answers = rw (c.new.ensures.items, c.new-all_answers.ensures.items) none_unused;
   count = ap length c.new.ensures.items;
+  used = ap length c.new-used.ensures.items;
 }

@@ -12,4 +12,5 @@ invariant-loop g l = record {
       → AreBegun g.L.Recorder app keep l.team.workers.items l.team.packets.items;
   all_answers : AreUnused l.team.workers.items l.all_answers.items;
   count : length l.team.workers.items ≡ l.counter;
+  used : length l.used.items ≡ l.counter;
 }
