@@ -13,8 +13,8 @@ use app_api::{LogApp, Reason, Verdict};
 use control_script::Script;
 use lane_core::{Lane, Recorder};
 use lane_rings::{
-    AnswerRx, Batch, BatchTx, CommandTx, FlatBatch, LentPacket, Packet, answer_ring, batch_ring,
-    command_ring,
+    AnswerBatch, AnswerBatchRx, Batch, BatchTx, CommandTx, FlatBatch, LentAnswer, LentPacket,
+    Packet, answer_batch_ring, batch_ring, command_ring,
 };
 use lane_worker::{OpenGate, Worker, work};
 use shared_forest::{ForestStore, StoreUser, Table};
@@ -32,7 +32,50 @@ const SCRIPT: &str = "at 100 reg 16 pkt_in snd do drop\nlive unreg 16";
 struct Ends {
     packets: BatchTx,
     commands: CommandTx,
-    answers: AnswerRx,
+    answers: Answers,
+}
+
+// The answers of a worker in turn: those of the batch at hand, and then those of the next one.
+#[derive(Drop)]
+struct Answers {
+    ring: AnswerBatchRx,
+    batch: Option<AnswerBatch>,
+    // How many answers of the batch were taken.
+    taken: usize,
+}
+
+impl Answers {
+    fn of(ring: AnswerBatchRx) -> Answers {
+        Answers {
+            ring,
+            batch: None,
+            taken: 0,
+        }
+    }
+
+    // Whether no batch is at hand that has an answer left.
+    fn is_used_up(&self) -> bool {
+        match &self.batch {
+            Some(batch) => batch.len() <= self.taken,
+            None => true,
+        }
+    }
+
+    // The next answer, by the packet's index; none where the ring shows none.
+    fn take(&mut self) -> Option<(u64, Verdict)> {
+        if self.is_used_up() {
+            self.batch = Some(self.ring.take()?);
+            self.taken = 0;
+        }
+        let batch = self.batch.as_ref()?;
+        if batch.len() <= self.taken {
+            return None;
+        }
+        let LentAnswer { packet, verdict } = batch.answer(self.taken);
+        let index = packet.index;
+        self.taken += 1;
+        Some((index, verdict))
+    }
 }
 
 #[derive(Drop)]
@@ -64,7 +107,7 @@ fn worker<L: Recorder + Drop>(
 {
     let (packet_tx, packets) = batch_ring(alloc, places)?;
     let (command_tx, commands) = command_ring(alloc, places)?;
-    let (answer_tx, answers) = answer_ring(alloc, places)?;
+    let (answer_tx, answers) = answer_batch_ring(alloc, places)?;
     let worker = Worker {
         number: 0,
         lane,
@@ -76,7 +119,7 @@ fn worker<L: Recorder + Drop>(
     let ends = Ends {
         packets: packet_tx,
         commands: command_tx,
-        answers,
+        answers: Answers::of(answers),
     };
     Ok((worker, ends))
 }
@@ -122,10 +165,10 @@ fn send(ends: &mut Ends, alloc: Global, index: u64, floor: u32, ceil: u32) -> bo
 }
 
 // Takes an answer, and waits for it.
-fn take<R: Wait>(rt: &R, answers: &mut AnswerRx) -> (u64, Verdict) {
+fn take<R: Wait>(rt: &R, answers: &mut Answers) -> (u64, Verdict) {
     for _ in rt.forever() {
         if let Some(answer) = answers.take() {
-            return (answer.index, answer.verdict);
+            return answer;
         }
         thread::yield_now();
     }
@@ -152,7 +195,7 @@ fn verdict_on(index: u64) -> Verdict {
 }
 
 // How many of four packets, from this number on, are answered in order and as they must be.
-fn take_four<R: Wait>(rt: &R, answers: &mut AnswerRx, first: u64) -> u64 {
+fn take_four<R: Wait>(rt: &R, answers: &mut Answers, first: u64) -> u64 {
     let mut right = 0u64;
     for index in first..first.saturating_add(4) {
         if take(rt, answers) == (index, verdict_on(index)) {
@@ -226,8 +269,8 @@ type Answered = ([u64; 3], u32);
 fn answered<L: Recorder + Drop>(w: &Worker<L>, ends: &mut Ends) -> Answered {
     let mut indices = [0u64; 3];
     for index in &mut indices {
-        if let Some(answer) = ends.answers.take() {
-            *index = answer.index;
+        if let Some((number, _)) = ends.answers.take() {
+            *index = number;
         }
     }
     (indices, w.lane.version())
