@@ -1,10 +1,10 @@
 //! The built-in events: one table of their names, of the hooks at which they are raised and of what raises them, in order of
 //! their numbers.
 
-ghost use Rattle.std.specs.Prelude.{◌≡◌, ◌≤◌, ◌<◌, List, length, map, slice_get, IfSome};
+ghost use Rattle.std.specs.Prelude.{◌≡◌, ◌≤◌, ◌<◌, [], List, length, map, slice_get, get_or, IfSome};
 ghost use Rattle.std.specs.Option.{option_copied};
 ghost use Rattle.app_api.specs.Events.{START as FIRST, LAST, EventRow, is_built_in, place_of, raised_at, raised_by_packets, allows_hook, is_of_packets};
-ghost use Rattle.app_api.specs.Names.{IsLabel, event_name, event_named};
+ghost use Rattle.app_api.specs.Names.{IsLabel, event_names, event_name, event_named};
 
 use native_filters::Hook;
 
@@ -140,6 +140,14 @@ pub fn event_label(event: u16) -> Option<(&'static str, usize)>
     Some((TABLE[place].3, TABLE[place].0.len()))
 }
 
+// The name in a row of the table.
+fn name_at(place: usize) -> &'static str
+    requires row { place < length event_names }
+    ensures { result.now ≡ get_or event_names place [] }
+{
+    TABLE[place].0
+}
+
 /// The built-in event of a name.
 pub fn event_named(name: &[u8]) -> Option<u16>
     ensures event { result ≡ event_named name.now }
@@ -148,7 +156,7 @@ pub fn event_named(name: &[u8]) -> Option<u16>
     ensures some { IfSome result (λ e. 0 < length name.now) }
 {
     for place in 0..TABLE.len() {
-        if name == TABLE[place].0.as_bytes() {
+        if name == name_at(place).as_bytes() {
             return Some(START + place as u16);
         }
     }

@@ -18,8 +18,8 @@ ghost use Rattle.lane_composition.specs.Forward.{HaveLeft, HasLeft};
 
 /// Before a packet has left, nothing was written.
 pub fn nothing_has_left()
-    ensures none { (lane : ℕ → ℕ) (given : ℕ → List Answer) (out : Option (List ℕ)) → ((l : ℕ) → given l ≡ [])
-        → HaveLeft lane 0 given out out }
+    ensures none { (lane : ℕ → ℕ) (given : ℕ → List Answer) (out : Option (List ℕ))
+        → ((l : ℕ) → given l ≡ []) → HaveLeft lane 0 given out out }
 {}
 
 /// The next packet leaves, by an answer of its lane: its record is written whole, or cut off where its write fails.
@@ -32,8 +32,8 @@ pub fn the_next_leaves()
         (old mid new : Option (List ℕ)) → n < m → HaveLeft lane n given old mid
         → after (lane n) ≡ given (lane n) ++ a ∷ [] → ((l : ℕ) → l ≢ lane n → after l ≡ given l)
         → AppendsFront mid new (bytes_out a) → HasLeft lane m after old new }
-    ensures some { (lane : ℕ → ℕ) (n m : ℕ) (given : ℕ → List Answer) (old new : Option (List ℕ)) → n ≤ m
-        → HaveLeft lane n given old new → HasLeft lane m given old new }
+    ensures some { (lane : ℕ → ℕ) (n m : ℕ) (given : ℕ → List Answer) (old new : Option (List ℕ))
+        → n ≤ m → HaveLeft lane n given old new → HasLeft lane m given old new }
 {}
 
 /// Only the lanes of the packets that were sent count: so a run may learn the lane of each packet as it reads it.

@@ -117,7 +117,7 @@ module _ {L : Type 0} (stands_for : L → List LaneEvent → Type 0) (app_of : L
     pub fails : IfErr result (λ e. failed new ≡ Some e)
     -- the packet is passed on or dropped
     pub verdict : IfOk result (λ verdict. ForEvents (stands_for old) (λ events. verdict ≡ next_verdict (app_of old) events a))
-    -- it fails as heavy exactly where it keeps entries and they weigh too much with this packet
+    -- it fails as heavy only where it keeps entries and they weigh too much with this packet
     pub light : OnOk result (KeepsWithin keeps_of app_of stands_for old (IsHeavyAt a))
     pub heavy : failed old ≡ None → result ≡ Err Heavy → KeepsTooMuch keeps_of app_of stands_for old (IsHeavyAt a)
     -- its store interned at most once for each change that the packet makes of a connection's private list

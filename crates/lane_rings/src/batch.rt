@@ -1,6 +1,6 @@
 //! Packets that go to a lane together.
 
-ghost use Rattle.std.specs.Prelude.{◌≡◌, ◌<◌, ◌++◌, [], ◌∷◌, length, slice_get, Some, IfOk, OnOk, OnErr};
+ghost use Rattle.std.specs.Prelude.{◌≡◌, ◌++◌, [], ◌∷◌, length, IfOk, OnOk, OnErr};
 ghost use Rattle.std.specs.List.{All};
 ghost use Rattle.lane_rings.specs.Places.{IsWithin, packet_of, lent};
 
@@ -173,14 +173,6 @@ impl FlatBatch {
     /// How many bytes its packets have in all.
     pub fn byte_count(&self) -> usize {
         self.bytes.len()
-    }
-
-    /// The packet in this place.
-    pub fn packet(&self, n: usize) -> LentPacket<'_>
-        requires below { n < length self.now }
-        ensures { slice_get self.now n ≡ Some (lent result) }
-    {
-        self.places[n].lend(&self.bytes)
     }
 
     /// Takes all packets out of it.

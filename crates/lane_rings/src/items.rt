@@ -33,7 +33,7 @@ pub enum Batch {
     Flat(FlatBatch),
 }
 
-/// What a lane says of a packet, with the packet's frame on its way back.
+/// A verdict on a packet, with the packet's frame on its way back.
 #[derive(Drop)]
 pub struct Answer {
     /// The packet's number in the capture, from 0.
@@ -75,16 +75,6 @@ impl AnswerBatch {
             AnswerBatch::Flat(answers) => answers.answer(n),
         }
     }
-
-    /// Takes all answers out of it, and gives its memory as a batch of no packets, where it has memory for one.
-    pub fn emptied(self, alloc: Global) -> FlatBatch
-        ensures { result ≡ [] }
-    {
-        match self {
-            AnswerBatch::Single(..) => FlatBatch::new(alloc),
-            AnswerBatch::Flat(answers) => answers.emptied(),
-        }
-    }
 }
 
 /// The end of a packet ring that sends: the dispatcher's.
@@ -99,9 +89,9 @@ pub type BatchRx = RingRx<Batch>;
 pub type CommandTx = RingTx<u32>;
 /// The end of a command ring that takes: the lane's.
 pub type CommandRx = RingRx<u32>;
-/// The end of an answer ring that sends: the lane's.
+/// The end of an answer ring that sends.
 pub type AnswerTx = RingTx<Answer>;
-/// The end of an answer ring that takes: the dispatcher's.
+/// The end of an answer ring that takes.
 pub type AnswerRx = RingRx<Answer>;
 /// The end of a ring for batches of answers that sends: the lane's.
 pub type AnswerBatchTx = RingTx<AnswerBatch>;

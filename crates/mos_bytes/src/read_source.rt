@@ -9,8 +9,9 @@ ghost use Rattle.mos_bytes.specs.Reads.{BeginsWith, HasAtLeast, PassesOver, Read
 use crate::{Failed, Source, copy_front};
 use std::io::Read;
 
-// One call of the system brings many small packets, and as much as a pipe holds at once.
-const BUFFER: usize = 65536;
+// One call of the system brings many small packets. What is on its way to other threads is waited for before each call, so that
+// a call for less costs more than its own time.
+const BUFFER: usize = 524_288;
 
 /// A source over a reader. It tells what is left where the reader does: over files and standard streams it tells
 /// nothing. Its count of faults begins at 0. Each error of the reader is a fault, and so is a count longer than the buffer.
@@ -24,7 +25,7 @@ pub struct ReadSource<R> {
     end: usize,
     faults: u64,
     ghost ordered: { start ≤ end },
-    ghost within: { end ≤ 65536 },
+    ghost within: { end ≤ 524288 },
 }
 
 // One call of the reader. An error is a fault, and so is a count longer than the buffer.

@@ -23,6 +23,20 @@ impl Write for Broken {
     }
 }
 
+// A reader that gives up to so many bytes at once.
+#[derive(Drop)]
+pub(crate) struct Piecewise<'a> {
+    pub(crate) left: &'a [u8],
+    pub(crate) piece: usize,
+}
+
+impl<'a> Read for Piecewise<'a> {
+    fn read(&mut self, buf: &mut [u8]) -> Result<usize> {
+        let most = self.piece.min(buf.len());
+        self.left.read(&mut buf[..most])
+    }
+}
+
 // Whether a read of three gives as many bytes, and leaves two at hand.
 fn reads_ahead(source: &mut ReadSource<&[u8]>, buf: &mut [u8; 3]) -> bool {
     source.at_hand().is_empty()

@@ -2,6 +2,7 @@
 
 ghost use Rattle.std.specs.Prelude.{◌≤◌};
 
+use crate::adapters::Piecewise;
 use crate::memory::{sink, source};
 use mos_bytes::{MemSource, ReadSource, Sink, Source};
 use pcap_source::{Capture, Frame, NextError, OpenError, RECORD_LIMIT, Step};
@@ -289,7 +290,7 @@ const AT_HAND: &[(&str, u32, usize, bool)] = &[
     ("a record too long", 262_145, 262_145, false),
 ];
 
-// The captured length of a record that a reader gives, and whether it is read ahead with the header.
+// The captured length of a record that a reader gives in pieces of 65,536 bytes, and whether it is read ahead with the header.
 const READ_AHEAD: &[(&str, u32, usize, bool)] = &[
     ("a short record", 9, 9, true),
     ("a long record", 65_536, 65_536, false),
@@ -322,7 +323,11 @@ fn record_is_read_ahead(
     want: bool,
 ) -> Result<bool, AllocError> {
     let bytes = one_record(alloc, captured, there)?;
-    Ok(is_at_hand(&mut ReadSource::new(bytes.as_slice()), want))
+    let mut source = ReadSource::new(Piecewise {
+        left: bytes.as_slice(),
+        piece: 65_536,
+    });
+    Ok(is_at_hand(&mut source, want))
 }
 
 // A record that is cut or too long isn't at hand.

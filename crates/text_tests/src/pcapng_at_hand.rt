@@ -2,13 +2,13 @@
 
 ghost use Rattle.std.specs.Prelude.{◌≤◌};
 
+use crate::adapters::Piecewise;
 use crate::pcapng::Part::{self, Bytes, Four, Two};
 use crate::pcapng::{INTERFACE, OTHER, PACKET, SECTION, SIMPLE, TIMED, file, put};
 use mos_bytes::{MemSource, ReadSource, Source};
 use pcap_source::{Capture, Frame, Step};
 use pcapng_source::AnySource;
 use std::alloc::{AllocError, Global};
-use std::io::{Read, Result as IoResult};
 use std::test::Fail;
 
 // Whether the next record is read.
@@ -128,22 +128,7 @@ fn whole_packets_are_at_hand(rt: HostRuntime) -> Result<(), Fail> {
 
 // ---- bytes that a reader was asked for are at hand
 
-// Gives up to so many bytes at once.
-#[derive(Drop)]
-struct Piecewise<'a> {
-    left: &'a [u8],
-    piece: usize,
-}
-
-impl<'a> Read for Piecewise<'a> {
-    fn read(&mut self, buf: &mut [u8]) -> IoResult<usize> {
-        let most = self.piece.min(buf.len());
-        self.left.read(&mut buf[..most])
-    }
-}
-
-// How many bytes the second of three packets has, how many the reader gives at once, and whether each record is at hand. At
-// most 65,536 bytes are read ahead.
+// How many bytes the second of three packets has, how many the reader gives at once, and whether each record is at hand.
 const FROM_READER: &[(&str, u32, usize, &[bool])] = &[
     ("a short packet", 4, 65_536, &[true, true, true]),
     ("a long packet", 65_536, 65_536, &[true, false, true]),

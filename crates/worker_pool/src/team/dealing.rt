@@ -30,7 +30,8 @@ pub(crate) fn deal_packet<R: Wait, L: Recorder + Drop, G: Gate>(
 ) -> Result<usize, AllocError>
     requires some { 1 ≤ length inputs.old.items }
     requires dealt { WereDealt L.Recorder context.now.script.now packet.now.index inputs.old.items }
-    ensures lane { IfOk result (λ lane. lane ≡ lane_of_sight (sight_of packet.now.bytes.now) (length inputs.old.items)) }
+    ensures lane { IfOk result (λ lane.
+        lane ≡ lane_of_sight (sight_of packet.now.bytes.now) (length inputs.old.items)) }
     ensures within { IfOk result (λ lane. lane < length inputs.old.items) }
     ensures count { length inputs.new.items ≡ length inputs.old.items }
     ensures dealt { OnOk result ((frame : Captured)

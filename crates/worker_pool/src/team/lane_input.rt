@@ -21,7 +21,7 @@ use std::sync::Wait;
 pub(crate) const PACKETS_IN_BATCH: usize = 64;
 
 /// With so many bytes a batch is sent, however few its packets are.
-const BYTES_IN_BATCH: usize = 65_536;
+const BYTES_IN_BATCH: usize = 16_384;
 
 /// What feeds a lane: the ring into which its packets are sent, and where the worker is that takes them out of it.
 #[derive(Drop)]

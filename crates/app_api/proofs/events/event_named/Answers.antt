@@ -1,5 +1,4 @@
-use Rattle.std.proofs.Common.{◌≡◌, ℕ, zero, suc, add-one, ap, ◌+◌, ◌<◌, Bool, List, [], ◌∷◌, length, drop, get_or, false, refl, ◌∙◌, arith}
-use Rattle.std.proofs.lemmas.Grind.{common_steps}
+use Rattle.std.proofs.Common.{◌≡◌, ℕ, zero, suc, add-one, ap, sym, ◌+◌, ◌<◌, Bool, List, [], ◌∷◌, length, drop, get_or, false, refl, ◌∙◌, arith}
 use Rattle.std.specs.List.{position_from}
 use Rattle.std.specs.Str.{bytes_eq}
 use Rattle.app_api.specs.Names.{event_names}
@@ -16,7 +15,8 @@ pub loop-place-preserved : goal.loop-place-preserved
 loop-place-preserved c =
     let i = c.loop-place.place in
     let name = c.args.name.now in
-    let other : bytes_eq name (get_or event_names i []) ≡ false = grind (arith, common_steps) in
+    let other : bytes_eq name (get_or event_names i []) ≡ false =
+    ap (bytes_eq name) (sym (c.as_bytes.ensures.value ∙ c.name_at.ensures)) ∙ sym c.eq.ensures ∙ c.if-eq.false in
     let test : List ℕ → Bool = λ known. bytes_eq name known in
     let next : 256 + (i + 1) ≡ 256 + i + 1 = omega arith in
     ap (λ k. position_from test k (drop (i + 1) event_names)) next
