@@ -57,19 +57,6 @@ module _ {S : Type 0} (source : Source S) (capture : CaptureState) (first now : 
       (λ told. absurd (⊎_elim (no_value NoMemory result is) (λ heavy. cc) told))
       (λ fault. cc)
 
--- a refusal of the capture is no fault of writing, and is one of reading only where that was told
-pub none_written : {T : Type 0} (e : NextError) (result : Result T PoolError) → result ≡ Err (read_refusal e) → IsErrOf result WriteFault → ⊥
-none_written (Next.TooLong offset) result is fault = cc
-none_written (Next.TooMany offset) result is fault = cc
-none_written Next.ReadFault result is fault = cc
-none_written Next.NoMemory result is fault = cc
-
-pub fault_read : {T : Type 0} (e : NextError) (result : Result T PoolError) → result ≡ Err (read_refusal e) → IsErrOf result ReadFault → e ≡ Next.ReadFault
-fault_read (Next.TooLong offset) result is fault = absurd (cc)
-fault_read (Next.TooMany offset) result is fault = absurd (cc)
-fault_read Next.ReadFault result is fault = refl
-fault_read Next.NoMemory result is fault = absurd (cc)
-
 -- an error of writing or of memory is none of the source
 pub none_read : {T : Type 0} (e : PoolError) (result : Result T PoolError) → result ≡ Err e → (e ≡ WriteFault) ⊎ (e ≡ NoMemory) → IsErrOf result ReadFault → ⊥
 none_read e result is only fault = ⊎_elim (λ w. cc) (λ m. cc) only

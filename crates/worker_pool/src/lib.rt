@@ -1,5 +1,4 @@
-//! Workers of a run on several lanes, and a run on several lanes that is reported. A worker has a thread of its own. Where
-//! answers are waited for, that of lane 0 works in the calling thread instead.
+//! Workers of a run on several lanes, and a run on several lanes that is reported. A worker has a thread of its own.
 //!
 //! The way of a packet: the *feed* of a run (`team::feed`), in the calling thread, reads it (`team::dispatch`; where the source
 //! lends it, `team::in_place`) and sends it to the *input* of its lane (`team::lane_input`); the worker of the lane

@@ -1,5 +1,4 @@
-//! Workers that share a run: a thread for each of them, one for the script's commands, and the dispatcher in this one. Where
-//! answers are waited for, the worker of lane 0 has no thread, and works beside the dispatcher.
+//! Workers that share a run: a thread for each of them, one for the script's commands, and the dispatcher in this one.
 
 ghost use Rattle.std.specs.Prelude.{◌≡◌, ◌≤◌, [], ◌∷◌, None, length, IfOk, IfErr, IsTrue};
 ghost use Rattle.std.specs.Vec.{vec_capacity};
@@ -112,13 +111,7 @@ fn join_control<R: Threads>(rt: &R, control: Option<JoinHandle<()>>) {
     }
 }
 
-// Whether a worker works in the thread that deals the packets. That of lane 0 does where answers are waited for: each packet is
-// then taken while it is near, and the thread that waits for answers works in the meantime.
-fn works_here<L: Recorder + Drop>(w: &Worker<L>) -> bool {
-    w.number == 0 && w.answers.is_some()
-}
-
-// Starts the thread in which a worker works until its flag is raised; one that works here is begun, and its flag is raised.
+// Starts the thread in which a worker works until its flag is raised. Where none can be started, it works here.
 fn take_on<'s, E: 's, L: Recorder + Drop + Send + 's, D: WorkerRunner<L> + Sync>(
     scope: &Scope<'s, E>,
     context: &'s D,
@@ -132,10 +125,6 @@ fn take_on<'s, E: 's, L: Recorder + Drop + Send + 's, D: WorkerRunner<L> + Sync>
     requires lawful { IsTrue (are_lawful (start (L.app w.lane).presets) (D.commands context.now)) }
     ensures placed { IsPlaced L.Recorder (commands_of script.now) w result }
 {
-    if works_here(&w) {
-        stop.store(true, Ordering::SeqCst);
-        return WorkerPlace::Inline(context.run_worker(w, stop));
-    }
     let promise = Works {
         start: Snapshot::of(&w),
         script: Snapshot::of(script),
@@ -288,9 +277,8 @@ fn run_lent_feed<
 }
 
 /// Runs a team over the packets that a feed sends: each packet is taken by the worker of its lane, and each of the
-/// script's commands is told to all. Answers what the feed ended with, and the workers. Lane 0 is run in this thread where
-/// answers are waited for, and so is a lane for which no thread can be started. Where the thread of the commands can't be
-/// started, they are told first.
+/// script's commands is told to all. Answers what the feed ended with, and the workers. A lane for which no thread can be
+/// started is run in this one. Where the thread of the commands can't be started, they are told first.
 ///
 /// An error is want of memory, before the feed has begun; it is as it was then. The context's `failed` is raised where a
 /// lane fails.
