@@ -17,14 +17,6 @@ given_is all given rest e =
 pub with_batch : (batches : List AnswerBatch) (batch : AnswerBatch) → answers_in (batches ++ batch ∷ []) ≡ answers_in batches ++ answers_of batch
 with_batch batches batch = flat_map-append answers_of batches (batch ∷ []) ∙ ap (λ l. answers_in batches ++ l) (append-nil (answers_of batch))
 
--- the batch at hand was given out whole
-pub none_at_hand : (batch : AnswerBatch) (at : ℕ) → length (answers_of batch) ≤ at → rest_of batch at ≡ []
-none_at_hand batch at le = drop_all at (answers_of batch) le
-
--- then all was given out
-pub all_given : (all rest : List Answer) → rest ≡ [] → before_rest all rest ++ rest ≡ all → before_rest all rest ≡ all
-all_given all rest none whole = sym (append-nil (before_rest all rest)) ∙ ap (λ l. before_rest all rest ++ l) (sym none) ∙ whole
-
 -- the next of a list, and those behind it
 pub next_of : (xs : List Answer) (n : ℕ) (x : Answer) → slice_get xs n ≡ Some x → drop n xs ≡ x ∷ drop (n + 1) xs
 next_of [] n x at = absurd (cc)
@@ -53,6 +45,3 @@ module _ (batches : List AnswerBatch) (batch : AnswerBatch) where
 
   pub batch_given : before_rest all_now (rest_of batch 0) ≡ answers_in batches
   batch_given = given_is all_now (answers_in batches) (rest_of batch 0) (sym (with_batch batches batch))
-
-  pub batch_whole : before_rest all_now (rest_of batch 0) ++ rest_of batch 0 ≡ all_now
-  batch_whole = ap (λ l. l ++ rest_of batch 0) batch_given ∙ sym (with_batch batches batch)

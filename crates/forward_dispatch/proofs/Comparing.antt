@@ -47,11 +47,6 @@ module _ {L : Type 0} (workers : List (Worker L)) (all_answers : List LaneAnswer
 
   module _ (k : ℕ) (now : List (Worker L)) (left : List LaneAnswers) (is : IsComparing k now left) (d : Worker L) (e : LaneAnswers) (below : k < length all_answers) (beside : AreBeside workers all_answers)
       (at_worker : d ≡ get_or now k d) (at_answers : e ≡ get_or left k e) where
-    pub ends_now : AreAnswerEnds d.answers e.ring
-    ends_now =
-        subst (λ (u : Worker L). AreAnswerEnds u.answers e.ring) (sym (at_worker ∙ is.same_workers k d (omega arith)))
-        (subst (λ (x : LaneAnswers). AreAnswerEnds (get_or workers k d).answers x.ring) (sym (at_answers ∙ is.same_all_answers k e (omega arith))) (beside.each k d e below))
-
     among : k < length workers
     among = let c = beside.count in omega (arith, c, below)
 

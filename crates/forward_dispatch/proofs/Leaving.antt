@@ -163,10 +163,6 @@ module _ (a b c : OnTheirWay) (old mid new : Option (List ℕ)) (so_far : Leaves
   leaves_well value result whole is on =
       leaves_less a c old new (IsOk result) whole (λ held. subst IsOk (sym is) refl) (leaves_then a b c old mid new ⊤ (IsOk result) tt so_far on)
 
-  -- or one was
-  pub leaves_ill : {T E : Type 0} (result : Result T E) (whole : Type 0) → (whole → ⊥) → LeavesOn b c mid new (IsOk result) → LeavesOn a c old new whole
-  leaves_ill result whole not on = leaves_less a c old new (IsOk result) whole (λ held. absurd (not held)) (leaves_then a b c old mid new ⊤ (IsOk result) tt so_far on)
-
 -- and the output is handed on
 pub leaves_handed : IsSomeLaw → (a b : OnTheirWay) (old mid new : Option (List ℕ)) (all whole : Type 0) → all → LeavesOn a b old mid all → Keeps mid new → LeavesOn a b old new whole
 leaves_handed some a b old mid new all whole held p keeps = record {

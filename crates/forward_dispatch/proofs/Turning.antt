@@ -72,9 +72,6 @@ module _ {L : Type 0} (g : Ghosts L) (script : List Stamped) where
 
   -- ---- while packets leave
 
-  pub settles_same : IsSomeLaw → (d : Dealing L) (old : Option (List ℕ)) (whole : Type 0) → Settles g script d d old old whole
-  settles_same some d old whole = record { inputs = λ begins frames are. are; newest = refl; leaves = leaves_same some d.way old whole }
-
   -- seen as another value of the same run
   pub settles_as : (a b d : Dealing L) (old new : Option (List ℕ)) (whole : Type 0) → d.way ≡ b.way → d.last ≡ b.last → d.inputs.items ≡ b.inputs.items → Settles g script a b old new whole
       → Settles g script a d old new whole
@@ -114,9 +111,6 @@ module _ {L : Type 0} (g : Ghosts L) (script : List Stamped) where
       newest = p.newest;
       leaves = leaves_handed some a.way b.way old new now whole all held p.leaves keeps;
     }
-
-    pub settles_less : (less : Type 0) → (less → whole) → Settles g script a b old new less
-    settles_less less all = record { inputs = p.inputs; newest = p.newest; leaves = leaves_less a.way b.way old new whole less all p.leaves }
 
 -- ---- how it stops
 
