@@ -13,11 +13,6 @@ joined-assoc (One n) (One m) More = refl
 joined-assoc (One n) More c = refl
 joined-assoc More b c = refl
 
-pub joined-nobody : (a : Hearers) → joined a Nobody ≡ a
-joined-nobody Nobody = refl
-joined-nobody (One n) = refl
-joined-nobody More = refl
-
 pub deep-joined : (a b : Hearers) → deep (joined a b) ≡ joined (deep a) (deep b)
 deep-joined Nobody b = refl
 deep-joined (One n) Nobody = refl
@@ -40,8 +35,3 @@ any-joined (One n) Nobody = refl
 any-joined (One n) (One m) = refl
 any-joined (One n) More = refl
 any-joined More b = refl
-
-pub any-deep : (a : Hearers) → is_any (deep a) ≡ is_any a
-any-deep Nobody = refl
-any-deep (One n) = refl
-any-deep More = refl

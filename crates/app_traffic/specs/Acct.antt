@@ -1,5 +1,5 @@
 -- Accounting: which presets it has, what a call changes, and how its fields are named.
-use Rattle.std.specs.Prelude.{◌≡◌, Bool, true, false, ◌||◌, List, [], ◌∷◌, refl, codes}
+use Rattle.std.specs.Prelude.{Bool, true, ◌||◌, List, [], ◌∷◌, refl, codes}
 use Rattle.std.proofs.Common.{lit≤}
 use Rattle.native_filters.specs.declared.facts.Hook.TheVariants.{Snd, Rcv}
 use Rattle.app_api.specs.declared.app.Call.{Call}

@@ -5,12 +5,9 @@ use Rattle.std.specs.List.{fold, list_any, list_all, AllByRecursion}
 use Rattle.std.proofs.lemmas.Bool.{and_parts, and_from, or_from, leb-true, le-leb, eq-eqb, ne_eqb}
 use Rattle.native_filters.specs.declared.facts.Facts.{Facts}
 use Rattle.native_filters.specs.declared.facts.Hook.{Hook}
-use Rattle.app_api.specs.declared.hearers.Heard.{Heard}
 use Rattle.app_api.specs.Events.{START, allows_hook}
-use Rattle.app_api.specs.Hearers.{is_heard_in}
 use Rattle.app_api.specs.Numbers.{rise_from}
 use Rattle.builtin_events.specs.declared.raise.Raise.{Raise}
-use Rattle.builtin_events.specs.Heard.{is_any_heard, hears}
 use Rattle.builtin_events.specs.Laws.{IsInOrder, IsAtItsSide, AreRaisedWhere}
 use Rattle.builtin_events.specs.Raises.{raise_if, raised_where}
 
@@ -131,9 +128,6 @@ module _ (hook : Hook) (facts : Facts) where
 
   any_raised : (test : Raise → Bool) (rows : List Row) → list_any test (raised_where hook facts rows) ≡ list_any (λ row. row.0 && test (raise_at row.1)) rows
   any_raised test rows = ap (list_any test) (sym (one_by_one rows)) ∙ any_each test rows
-
-  pub heard_raised : (heard : Heard) (rows : List Row) → is_any_heard heard (raised_where hook facts rows) ≡ hears heard rows
-  heard_raised heard rows = any_raised (λ r. is_heard_in heard r.event) rows
 
   raised_is : (all some : List Row) → AllByRecursion (λ row. hits row.1 all ≡ row.0) some → AreRaisedWhere some (raised_where hook facts all)
   raised_is all [] each = tt

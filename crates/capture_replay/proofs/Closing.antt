@@ -1,5 +1,5 @@
 -- The end of a run: what a lane ends with, and what is written of it.
-use Rattle.std.proofs.Common.{◌≡◌, ◌≢◌, ℕ, ◌<◌, Bool, true, false, Option, Some, None, List, [], ◌∷◌, ◌++◌, length, map, refl, sym, ap, subst, ◌∙◌, inl, inr, ⊎_elim}
+use Rattle.std.proofs.Common.{◌≡◌, ◌≢◌, ℕ, ◌<◌, Bool, true, false, Option, Some, None, List, [], ◌∷◌, ◌++◌, length, map, refl, sym, ap, subst, ◌∙◌, inl, inr}
 use Rattle.std.proofs.lemmas.List.{length-map}
 use Rattle.std.specs.Prelude.{◌⊎◌, not, if◌then◌else◌, Result, Ok, Err}
 use Rattle.std.specs.Io.KnownBytes.{Appends}
@@ -32,7 +32,7 @@ use Rattle.capture_replay.specs.declared.refusal.ReplayError.{ReplayError}
 use Rattle.capture_replay.specs.declared.refusal.ReplayError.TheVariants as Replay
 use Rattle.run_outcome.specs.Totals.{totals_of}
 use Rattle.capture_replay.specs.Records.{control_at, packets_of, records_of, versions_of}
-use Rattle.capture_replay.specs.Outcome.{Outcome, is_forward, is_heavy, streamed, closing, ended, weighed, refused}
+use Rattle.capture_replay.specs.Outcome.{is_forward, is_heavy, streamed, closing, ended, weighed, refused}
 use Rattle.capture_replay.specs.Summary.{summary_text, made_line}
 use Rattle.capture_replay.specs.Reading.{Follows, IsRead, records_so_far}
 use Rattle.capture_replay.specs.Refusal.{lane_refusal}

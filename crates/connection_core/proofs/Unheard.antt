@@ -27,7 +27,7 @@ use Rattle.connection_core.specs.declared.ledger.Notes.{Notes}
 use Rattle.connection_core.specs.declared.ledger.Counts.{Counts}
 use Rattle.connection_core.specs.declared.ledger.Ledger.{Ledger}
 use Rattle.connection_core.specs.PacketUnderWay.{PacketUnderWay, called_all, called_at, changed_all, settled, raise_done, phase}
-use Rattle.connection_core.specs.Standing.{IsUnder, Steps, Makes, Reached}
+use Rattle.connection_core.specs.Standing.{IsUnder, Steps, Reached}
 use Rattle.connection_core.specs.Unheard.{CallsNothing, CallNothing}
 use Rattle.connection_core.proofs.Changing.{within-same}
 

@@ -1,9 +1,9 @@
 -- Commands with their stamps.
-use Rattle.std.specs.Prelude.{ℕ, Bool, true, false, ◌&&◌, not, nat_lt, List, [], ◌∷◌, map}
+use Rattle.std.specs.Prelude.{Bool, true, false, ◌&&◌, not, nat_lt, List, [], ◌∷◌, map}
 use Rattle.std.specs.List.{list_all}
 use Rattle.forest_versions.specs.declared.command.Command.{Command}
 use Rattle.forest_versions.specs.declared.command.Stamp.{Stamp}
-use Rattle.forest_versions.specs.declared.command.Stamp.TheVariants.{At, Live}
+use Rattle.forest_versions.specs.declared.command.Stamp.TheVariants.{At}
 use Rattle.control_script.specs.declared.stamped.Stamped.{Stamped}
 
 abbrev pub commands_of : List Stamped → List Command

@@ -1,10 +1,9 @@
 -- How far a path leads in a tree, node by node.
-use Rattle.std.proofs.Common.{◌≡◌, ℕ, zero, suc, ◌+◌, ◌-◌, ◌<◌, ◌≤◌, List, [], ◌∷◌, ◌++◌, length, take, drop, get_or, refl, sym, ap, subst, ◌∙◌, arith}
+use Rattle.std.proofs.Common.{◌≡◌, ℕ, zero, suc, ◌+◌, ◌-◌, ◌<◌, ◌≤◌, List, [], ◌∷◌, ◌++◌, length, take, drop, get_or, sym, ap, subst, ◌∙◌, arith}
 use Rattle.std.specs.declared.cmp.Ordering.TheVariants.{Less}
 use Rattle.std.proofs.lemmas.List.{drop_more, take_more}
 use Rattle.shared_forest.specs.declared.node.Node.{Node}
-use Rattle.shared_forest.specs.declared.node.Slot.{Slot}
-use Rattle.shared_forest.specs.Layout.{AreLaidOut, IsTree}
+use Rattle.shared_forest.specs.Layout.{AreLaidOut}
 use Rattle.shared_forest.specs.Listing.{path_after}
 use Rattle.event_trees.specs.Private.{path_cmp}
 use Rattle.event_trees.specs.Build.{common}

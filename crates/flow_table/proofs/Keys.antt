@@ -78,9 +78,6 @@ same_key-reflexive key = sym (ties_key key key) ∙ (eq_by_cmp_equiv keys_total)
 pub same_key-equal : (a b : EndpointPair) → same_key a b ≡ true → a ≡ b
 same_key-equal a b h = exact_keys a b ((Equal-is (key_cmp a b)).0 (ties_key a b ∙ h))
 
-pub same_key-symmetric : (a b : EndpointPair) → same_key a b ≡ same_key b a
-same_key-symmetric a b = sym (ties_key a b) ∙ (eq_by_cmp_equiv keys_total).symm a b ∙ ties_key b a
-
 abbrev in_order : Bool → Endpoint → Endpoint → EndpointPair
 in_order le a b = if le then (a, b) else (b, a)
 

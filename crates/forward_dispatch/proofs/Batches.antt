@@ -1,11 +1,10 @@
 -- Answers that are given out, batch by batch.
-use Rattle.std.proofs.Common.{◌≡◌, ◌+◌, ◌-◌, ◌≤◌, ℕ, zero, suc, Some, List, [], ◌∷◌, ◌++◌, length, take, drop, sym, ap, ◌∙◌, append_assoc, append-nil, arith}
+use Rattle.std.proofs.Common.{◌≡◌, ◌+◌, ◌-◌, ℕ, zero, suc, Some, List, [], ◌∷◌, ◌++◌, length, take, drop, sym, ap, ◌∙◌, append_assoc, arith}
 use Rattle.std.specs.Prelude.{slice_get}
-use Rattle.std.proofs.lemmas.List.{length-append, take_at, drop_all}
-use Rattle.std.proofs.lemmas.List.Concat.{flat_map-append}
+use Rattle.std.proofs.lemmas.List.{length-append, take_at}
 use Rattle.lane_rings.specs.declared.items.Answer.{Answer}
 use Rattle.lane_rings.specs.declared.items.AnswerBatch.{AnswerBatch}
-use Rattle.lane_rings.specs.Answers.{answers_of, answers_in}
+use Rattle.lane_rings.specs.Answers.{answers_of}
 use Rattle.forward_dispatch.specs.Rest.{rest_of, before_rest}
 
 -- whatever stands before the rest is what was given out
@@ -13,9 +12,6 @@ pub given_is : (all given rest : List Answer) → given ++ rest ≡ all → befo
 given_is all given rest e =
     let long = sym (length-append given rest) ∙ ap length e in
     ap (take (length all - length rest)) (sym e) ∙ take_at given rest (length all - length rest) (omega (arith, long))
-
-pub with_batch : (batches : List AnswerBatch) (batch : AnswerBatch) → answers_in (batches ++ batch ∷ []) ≡ answers_in batches ++ answers_of batch
-with_batch batches batch = flat_map-append answers_of batches (batch ∷ []) ∙ ap (λ l. answers_in batches ++ l) (append-nil (answers_of batch))
 
 -- the next of a list, and those behind it
 pub next_of : (xs : List Answer) (n : ℕ) (x : Answer) → slice_get xs n ≡ Some x → drop n xs ≡ x ∷ drop (n + 1) xs
@@ -37,11 +33,3 @@ module _ (all : List Answer) (batch : AnswerBatch) (at : ℕ) (x : Answer) (whol
 
   pub still_whole : before_rest all (rest_of batch (at + 1)) ++ rest_of batch (at + 1) ≡ all
   still_whole = ap (λ l. l ++ rest_of batch (at + 1)) one_given ∙ one_before
-
--- a batch more comes to hand
-module _ (batches : List AnswerBatch) (batch : AnswerBatch) where
-  abbrev all_now : List Answer
-  all_now = answers_in (batches ++ batch ∷ [])
-
-  pub batch_given : before_rest all_now (rest_of batch 0) ≡ answers_in batches
-  batch_given = given_is all_now (answers_in batches) (rest_of batch 0) (sym (with_batch batches batch))

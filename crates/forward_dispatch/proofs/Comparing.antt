@@ -11,7 +11,7 @@ use Rattle.lane_rings.specs.declared.ring.RingTx.{RingTx}
 use Rattle.lane_rings.specs.Answers.{answers_of, answers_in}
 use Rattle.lane_worker.specs.declared.worker.Worker.{Worker}
 use Rattle.forward_dispatch.specs.declared.lane_answers.LaneAnswers.{LaneAnswers}
-use Rattle.forward_dispatch.specs.Compared.{AreAnswerEnds, AreBeside, sent_in, sent_from}
+use Rattle.forward_dispatch.specs.Compared.{AreBeside, sent_in, sent_from}
 use Rattle.forward_dispatch.specs.Given.{given_by, given_from}
 
 -- what was given out of the batches that were taken is a front of those that were sent

@@ -1,5 +1,5 @@
 -- A forward run, turn by turn.
-use Rattle.std.proofs.Common.{◌≡◌, ◌≢◌, ◌≤◌, ℕ, Option, Some, List, [], ◌∷◌, ◌++◌, length, refl, sym, ap, subst, ◌∙◌, append_assoc, append-nil, ◌⊎◌, ⊎_elim}
+use Rattle.std.proofs.Common.{◌≡◌, ◌≢◌, ◌≤◌, ℕ, Option, Some, List, [], ◌∷◌, ◌++◌, length, sym, ap, subst, ◌∙◌, append_assoc, append-nil, ◌⊎◌, ⊎_elim}
 use Rattle.std.specs.Prelude.{Result, Err}
 use Rattle.std.specs.Io.KnownBytes.{Keeps}
 use Rattle.std.proofs.lemmas.List.{map-append}
@@ -25,7 +25,7 @@ use Rattle.forward_dispatch.specs.OnTheirWay.{Leaves, IsCutOff, LeavesOn, sent_o
 use Rattle.forward_dispatch.specs.Streamed.{AreLaneAnswers, StopsAs, lanes_of}
 use Rattle.forward_dispatch.specs.Turns.{HasSent, LeavesSo, IsLeftSo, Settles, WentOn, IsRead}
 use Rattle.forward_dispatch.proofs.Given.{answers_after}
-use Rattle.forward_dispatch.proofs.Leaving.{IsSomeLaw, cut_nowhere, leaves_same, leaves_less, leaves_handed}
+use Rattle.forward_dispatch.proofs.Leaving.{IsSomeLaw, cut_nowhere, leaves_handed}
 
 -- the lanes of frames, with one frame more
 pub lanes_more : (lanes : ℕ) (frames : List Captured) (frame : Captured) (k : ℕ) → k ≡ lane_of_sight (sight_of frame.bytes) lanes → lanes_of lanes (frames ++ frame ∷ []) ≡ lanes_of lanes frames ++ k ∷ []

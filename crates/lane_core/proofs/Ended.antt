@@ -11,7 +11,7 @@ use Rattle.forest_versions.specs.State.{ControlState}
 use Rattle.connection_core.specs.PacketUnderWay.{PacketUnderWay, called, called_all, called_at}
 use Rattle.connection_core.specs.History.{History, begin}
 use Rattle.connection_core.specs.Silence.{silenced}
-use Rattle.lane_core.specs.Sight.{Sight, Tcp, Other, Moment, key_of_segment}
+use Rattle.lane_core.specs.Sight.{Moment}
 use Rattle.lane_core.specs.Records.{VersionedPacket, RecordSoFar, opens, is_between, is_shut, is_open_at, belongs_to, timer_raise_of, is_silent, ended_by_silence, ended_before, ended_at}
 use Rattle.lane_core.specs.Shown.{total, drop_count, alterations}
 use Rattle.lane_core.specs.Places.{further, place_by, IsSingle}

@@ -4,7 +4,7 @@ use Rattle.std.specs.Prelude.{if◌then◌else◌, nat_le}
 use Rattle.std.proofs.lemmas.Bool.{cases_lt, leb-true, leb-false}
 use Rattle.lane_core.specs.declared.under_way.RecordUnderWay.{RecordUnderWay}
 use Rattle.lane_composition.specs.Merge.{list_at}
-use Rattle.lane_join.specs.Queues.{first_name, IsLowest, AreEmpty, IsBest, lower_of}
+use Rattle.lane_join.specs.Queues.{first_name, IsLowest, IsBest, lower_of}
 
 none_is_some : (m : ℕ) → None ≡ Some m → ⊥
 none_is_some m e = cc

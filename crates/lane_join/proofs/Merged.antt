@@ -1,5 +1,5 @@
 -- The records that were merged so far, and those that wait.
-use Rattle.std.proofs.Common.{◌≡◌, ◌<◌, ◌+◌, ℕ, zero, suc, Bool, true, false, Some, None, List, [], ◌∷◌, ◌++◌, length, set, refl, sym, ap, ◌∙◌, subst, arith, ⊎_elim, get_or-set_same, get_or-set_other, append_assoc, append-nil}
+use Rattle.std.proofs.Common.{◌≡◌, ◌<◌, ◌+◌, ℕ, zero, suc, Bool, true, false, Some, List, [], ◌∷◌, ◌++◌, length, set, refl, sym, ap, ◌∙◌, subst, arith, ⊎_elim, get_or-set_same, get_or-set_other, append_assoc}
 use Rattle.std.specs.Prelude.{if◌then◌else◌, ◌==◌, filter}
 use Rattle.std.specs.List.{All}
 use Rattle.std.proofs.lemmas.List.{map-append, get_or_past}
@@ -7,8 +7,8 @@ use Rattle.std.proofs.lemmas.List.Elements.{All-nil, All-cons, All-head, All-tai
 use Rattle.std.proofs.lemmas.Bool.{cases_eq, cases_lt, eq-eqb, ne_eqb}
 use Rattle.lane_core.specs.declared.under_way.RecordUnderWay.{RecordUnderWay}
 use Rattle.run_outcome.specs.Rising.{Rises}
-use Rattle.lane_composition.specs.Merge.{list_at, names_in as names_by, AreOfLanes, IsMerge}
-use Rattle.lane_join.specs.Queues.{first_name, kept_name, AreEmpty, Moves}
+use Rattle.lane_composition.specs.Merge.{list_at, names_in as names_by, AreOfLanes}
+use Rattle.lane_join.specs.Queues.{first_name, kept_name, Moves}
 
 abbrev names_in : List RecordUnderWay → List ℕ
 names_in records = names_by kept_name records

@@ -1,6 +1,6 @@
 -- How faults of one call after another add up.
-use Rattle.std.proofs.Common.{ℕ, ◌^◌, ◌<◌, ◌≤◌, inl, inr, arith}
-use Rattle.mos_bytes.specs.Causes.{HasCauseOf, Rose, risen}
+use Rattle.std.proofs.Common.{ℕ, ◌≤◌, inl, inr, arith}
+use Rattle.mos_bytes.specs.Causes.{HasCauseOf, Rose}
 
 -- a count that rose later rose since before
 pub Rose-earlier : (before middle now : ℕ) → before ≤ middle → Rose middle now → Rose before now
@@ -12,16 +12,7 @@ pub Rose-later : (before middle now : ℕ) → Rose before middle → middle ≤
 Rose-later before middle now (inl less) le = inl (omega arith)
 Rose-later before middle now (inr end) le = inr (omega arith)
 
--- one fault more is a rise
-pub Rose-risen : (count : ℕ) → count < 2 ^ 64 → Rose count (risen count)
-Rose-risen count fits = grind arith
-
 -- a fault that is told at the end of a later call
 pub HasCauseOf-earlier : (before middle now : ℕ) (fault : Type 0) → before ≤ middle → HasCauseOf middle now fault → HasCauseOf before now fault
 HasCauseOf-earlier before middle now fault le call =
     let later = call.later in record { later = omega arith; cause = λ told. Rose-earlier before middle now le (call.cause told) }
-
--- a fault of an earlier call that is told now
-pub HasCauseOf-later : (before middle now : ℕ) (fault : Type 0) → HasCauseOf before middle fault → middle ≤ now → HasCauseOf before now fault
-HasCauseOf-later before middle now fault call le =
-    let later = call.later in record { later = omega arith; cause = λ told. Rose-later before middle now (call.cause told) le }

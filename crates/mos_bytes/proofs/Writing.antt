@@ -1,9 +1,9 @@
 -- A text that is written piece by piece to a sink.
-use Rattle.std.proofs.Common.{◌≡◌, ◌∙◌, ℕ, List, [], ◌++◌, refl, subst, sym, Result, IsErr}
+use Rattle.std.proofs.Common.{◌≡◌, ◌∙◌, ℕ, List, ◌++◌, subst, sym, Result, IsErr}
 use Rattle.std.proofs.lemmas.Result.{MatchResult-from_err, MatchResult-weaker}
 use Rattle.std.specs.declared.option.Option.{Option}
 use Rattle.std.specs.Io.KnownBytes.{Appends}
-use Rattle.std.proofs.KnownBytes.{Appends-nil, Appends-trans}
+use Rattle.std.proofs.KnownBytes.{Appends-trans}
 use Rattle.mos_bytes.specs.Writes.{AppendsFront, WriteAdds}
 use Rattle.mos_bytes.proofs.Writes.{AppendsFront-after, AppendsFront-more}
 
@@ -12,10 +12,6 @@ pub record Writing {S : Type 0} (taken : S → Option (List ℕ)) (faults : S �
   pub onward : (end : Option (List ℕ)) → Appends (taken now) end rest → Appends (taken old) end whole
   pub front : (end : Option (List ℕ)) → AppendsFront (taken now) end rest → AppendsFront (taken old) end whole
   pub still : faults now ≡ faults old
-
--- nothing was written yet
-pub Writing-begun : {S : Type 0} (taken : S → Option (List ℕ)) (faults : S → ℕ) (old : S) (whole : List ℕ) → Writing taken faults old old whole whole
-Writing-begun taken faults old whole = record { onward = λ end p. p; front = λ end p. p; still = refl }
 
 -- one more piece was written
 pub Writing-more : {S : Type 0} (taken : S → Option (List ℕ)) (faults : S → ℕ) (old mid now : S) (whole piece rest left : List ℕ)
@@ -33,11 +29,6 @@ pub Writing-failed : {S : Type 0} (taken : S → Option (List ℕ)) (faults : S 
     → AppendsFront (taken old) (taken now) whole
 Writing-failed taken faults old mid now whole piece rest left w is part =
     w.front (taken now) (subst (AppendsFront (taken mid) (taken now)) (sym is) (AppendsFront-more (taken mid) (taken now) piece rest part))
-
--- all was written
-pub Writing-done : {S : Type 0} (taken : S → Option (List ℕ)) (faults : S → ℕ) (old now : S) (whole left : List ℕ)
-    → Writing taken faults old now whole left → left ≡ [] → Appends (taken old) (taken now) whole
-Writing-done taken faults old now whole left w none = w.onward (taken now) (subst (Appends (taken now) (taken now)) (sym none) (Appends-nil (taken now)))
 
 -- an error that leaves a front
 pub WriteAdds-err : {T E : Type 0} (a b : Option (List ℕ)) (r : Result T E) (bytes : List ℕ) → IsErr r → AppendsFront a b bytes → WriteAdds a b r bytes

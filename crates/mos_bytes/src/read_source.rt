@@ -9,8 +9,8 @@ ghost use Rattle.mos_bytes.specs.Reads.{BeginsWith, HasAtLeast, PassesOver, Read
 use crate::{Failed, Source, copy_front};
 use std::io::Read;
 
-// One call of the system brings many small packets. What is on its way to other threads is waited for before each call, so that
-// a call for less costs more than its own time.
+// One call of the system brings many small packets. Before a call a caller may have to finish what it has begun, so that a
+// call for less costs more than its own time.
 const BUFFER: usize = 524_288;
 
 /// A source over a reader. It tells what is left where the reader does: over files and standard streams it tells

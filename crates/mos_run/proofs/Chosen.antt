@@ -1,6 +1,6 @@
 -- A run under what words chose: from one over a file, up to how it ended.
-use Rattle.std.proofs.Common.{◌≡◌, ◌≢◌, ℕ, ◌<◌, ◌≤◌, false, List, [], Option, Some, None, Result, Ok, Err, refl, sym, ap, subst, ◌∙◌, arith, inl, inr}
-use Rattle.std.specs.Prelude.{◌⊎◌, IsOk, IsErr, IfErr, IsErrOf}
+use Rattle.std.proofs.Common.{◌≡◌, ◌≢◌, ℕ, ◌<◌, ◌≤◌, List, [], Option, Some, None, Result, Ok, Err, refl, sym, ap, subst, ◌∙◌, arith, inl, inr}
+use Rattle.std.specs.Prelude.{◌⊎◌, IsErr, IfErr, IsErrOf}
 use Rattle.mos_bytes.specs.Causes.{Rose}
 use Rattle.mos_bytes.specs.Writes.{AppendsFront}
 use Rattle.mos_bytes.specs.declared.source.Source.{Ghosts as Source}
@@ -13,7 +13,7 @@ use Rattle.words.specs.declared.settings.WordsError.{WordsError}
 use Rattle.words.specs.declared.settings.WordsError.TheVariants as Words
 use Rattle.capture_replay.specs.Laws.{CeilingsMayBeHad}
 use Rattle.capture_replay.specs.declared.plan.Task.{Task}
-use Rattle.capture_replay.specs.Outcome.{Outcome, made_for, output_of}
+use Rattle.capture_replay.specs.Outcome.{made_for, output_of}
 use Rattle.mos_run.specs.declared.ended.Ended.{Ended}
 use Rattle.mos_run.specs.declared.refusal.RunError.{RunError}
 use Rattle.mos_run.specs.declared.refusal.RunError.TheVariants as Run

@@ -1,5 +1,5 @@
 -- The report of a run that ended well, read back.
-use Rattle.std.proofs.Common.{◌≡◌, ℕ, Bool, true, false, Some, None, Option, List, take, Result, Ok, Err, refl, sym, ap, subst, ◌∙◌}
+use Rattle.std.proofs.Common.{◌≡◌, ℕ, Bool, true, false, Some, None, Option, List, take, Result, Ok, Err, refl, ap, subst}
 use Rattle.std.specs.Prelude.{if◌then◌else◌}
 use Rattle.std.specs.Io.KnownBytes.{Appends}
 use Rattle.app_api.specs.App.{Meaning}
@@ -19,7 +19,7 @@ use Rattle.capture_replay.specs.ReadBack.{ReportIsReadBack}
 use Rattle.capture_replay.specs.Runs.{Finishes}
 use Rattle.std.specs.Result.{result_map_both}
 use Rattle.mos_run.specs.Refusal.{replay_refusal}
-use Rattle.mos_run.specs.Outcome.{followed_in_file, outcome, outcome_in_file, told_as}
+use Rattle.mos_run.specs.Outcome.{followed_in_file, outcome, outcome_in_file}
 use Rattle.mos_run.specs.ReadBack.{ReportOfRunIsReadBack}
 use Rattle.mos_run.specs.Request.{Wanted}
 

@@ -1,7 +1,6 @@
 -- The script of a run: its text, and the commands that it comes to.
 use Rattle.std.specs.Prelude.{ℕ, List, length, nat_lt, if◌then◌else◌, Result, Err}
 use Rattle.std.specs.Result.{result_map_both}
-use Rattle.control_script.specs.declared.error.ScriptError.{ScriptError}
 use Rattle.control_script.specs.declared.stamped.Stamped.{Stamped}
 use Rattle.control_script.specs.Script.{script}
 use Rattle.app_api.specs.App.{Meaning}

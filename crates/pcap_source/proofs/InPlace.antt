@@ -1,12 +1,8 @@
 -- A record that stands whole at the front of some bytes.
-use Rattle.std.proofs.Common.{◌≡◌, ℕ, ◌+◌, ◌<◌, ◌≤◌, List, ◌++◌, length, take, drop, Some, refl, sym, ap, subst, ◌∙◌, arith, length-append, length-drop, length-take-le, take-add, take_all, None, []}
-use Rattle.std.proofs.lemmas.Grind.{common_steps}
+use Rattle.std.proofs.Common.{◌≡◌, ℕ, ◌+◌, ◌<◌, ◌≤◌, List, ◌++◌, length, take, drop, Some, refl, sym, ap, subst, ◌∙◌, arith, length-append, length-drop, length-take-le, take-add}
 use Rattle.std.proofs.KnownBytes.{starts_with_rest}
 use Rattle.std.proofs.Math.Seq.{drop-append_seam}
-use Rattle.std.specs.declared.option.Option.{Option}
 use Rattle.std.specs.Io.{StartsWith}
-use Rattle.mos_bytes.specs.Reads.{Fills, FillsPart, PassesOver}
-use Rattle.pcap_source.specs.InPlace.{IsPassed, StopsWithin}
 use Rattle.std.specs.Io.KnownBytes.{Consumes}
 use Rattle.pcap_source.specs.Captured.{record_bytes}
 use Rattle.pcap_source.specs.Capture.{captured_length, record_at, with_frame}

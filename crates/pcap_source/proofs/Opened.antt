@@ -1,9 +1,9 @@
 -- What `open` may answer after it has read the header.
-use Rattle.std.proofs.Common.{◌≡◌, ◌⊎◌, ℕ, ◌%◌, ◌==◌, ◌<◌, ◌≤◌, List, ◌++◌, length, take, drop, Bool, true, false, not, nat_lt, if◌then◌else◌, inl, inr, None, Some, Ok, Err, refl, sym, ap, ◌∙◌, arith, length-append, length-take-le, take_all}
+use Rattle.std.proofs.Common.{◌≡◌, ◌⊎◌, ℕ, ◌%◌, ◌==◌, ◌≤◌, List, ◌++◌, length, take, drop, Bool, true, false, not, nat_lt, if◌then◌else◌, inl, inr, None, Some, Ok, Err, refl, sym, ap, ◌∙◌, arith, length-append, take_all}
 use Rattle.std.proofs.lemmas.Bool.Decides.{nat_tests}
 use Rattle.std.proofs.Math.Seq.{take-append_seam, drop-append_seam}
 use Rattle.std.specs.declared.option.Option.{Option}
-use Rattle.mos_bytes.specs.Reads.{Fills, FillsPart}
+use Rattle.mos_bytes.specs.Reads.{Fills}
 use Rattle.pcap_source.specs.Capture.{header_of, header_by, order_of}
 use Rattle.pcap_source.specs.Order.{number_in}
 use Rattle.pcap_source.specs.Reading.{OpenGives}

@@ -84,11 +84,6 @@ closed-drop order total offset k n bytes others =
     let last : drop n (drop k bytes) ≡ drop (k + n) bytes = drop-drop n k bytes in
     rw (there, last) refl
 
--- the second total length, where it isn't there
-pub closed-short : (order : Order) (total offset n : ℕ) (bytes : List ℕ) (others : Given) → length bytes < n + 4
-    → closed order total offset n bytes others ≡ nothing
-closed-short order total offset n bytes others short = cond-false (has (n + 4) bytes) _ nothing (has-short (n + 4) bytes short)
-
 -- bytes in front of bytes
 pub after-after : (front more : List ℕ) (given : Given) → prepended (front ++ more) given ≡ prepended front (prepended more given)
 after-after front more given = ap (λ l. record { bytes = l; refusal = given.refusal }) (append_assoc front more given.bytes)

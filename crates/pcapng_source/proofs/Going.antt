@@ -1,16 +1,13 @@
 -- What a step of a read gives.
-use Rattle.std.proofs.Common.{◌≡◌, ℕ, ◌+◌, ◌^◌, ◌≤◌, List, [], ◌++◌, take, Option, Result, None, Some, Ok, Err, inl, inr, refl, sym, ap, subst, ◌∙◌, arith, ⊎_elim}
+use Rattle.std.proofs.Common.{◌≡◌, ℕ, ◌+◌, ◌^◌, List, [], ◌++◌, take, Option, Result, None, Some, Ok, Err, inl, inr, sym, ap, subst, ◌∙◌, arith, ⊎_elim}
 use Rattle.std.proofs.lemmas.Bool.{cases_lt}
 use Rattle.std.proofs.lemmas.List.{take-append-le}
 use Rattle.std.specs.Io.KnownBytes.{Consumes}
 use Rattle.mos_bytes.specs.declared.failed.Failed.{Failed}
 use Rattle.mos_bytes.specs.Causes.{HasCause, Rose, risen}
-use Rattle.mos_bytes.proofs.Causes.{Rose-earlier}
 use Rattle.pcapng_source.specs.Given.{Given, prepended}
-use Rattle.mos_bytes.specs.declared.source.Source.{Ghosts}
-use Rattle.pcapng_source.specs.Reading.{IsSteady, met_at, rest_of}
+use Rattle.pcapng_source.specs.Reading.{met_at, rest_of}
 use Rattle.pcapng_source.specs.Outlooks.{Gives, StepFits, StepGives, faults_with, outlook}
-use Rattle.pcapng_source.specs.Turns.{Going}
 use Rattle.pcapng_source.specs.declared.reader.Reader.{Reader}
 
 -- a reader that gives the same

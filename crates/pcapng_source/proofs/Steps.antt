@@ -1,13 +1,13 @@
 -- What a reader's steps leave as it was.
-use Rattle.std.proofs.Common.{◌≡◌, ℕ, zero, suc, ◌+◌, ◌-◌, ◌*◌, ◌<◌, ◌≤◌, List, [], ◌++◌, length, take, drop, Bool, true, false, ◌==◌, cond, Some, refl, sym, ap, subst, ◌∙◌, arith, length-append, ⊎_elim}
+use Rattle.std.proofs.Common.{◌≡◌, ℕ, zero, ◌+◌, ◌-◌, ◌<◌, ◌≤◌, List, [], ◌++◌, length, take, drop, Bool, true, false, ◌==◌, cond, Some, refl, sym, ap, subst, ◌∙◌, arith, length-append, ⊎_elim}
 use Rattle.std.proofs.lemmas.Bool.{cases_Bool, cases_lt, cond-false, cond-true, eqb-true}
 use Rattle.std.proofs.lemmas.List.{nil_from_length}
-use Rattle.std.proofs.Math.Seq.{take-nil, drop-nil, take-append-add, drop-append-add}
-use Rattle.pcapng_source.specs.Given.{prepended, nothing, refused_with}
-use Rattle.pcapng_source.specs.Fields.{SectionState, has, head_length, block_kind}
+use Rattle.std.proofs.Math.Seq.{take-append-add, drop-append-add}
+use Rattle.pcapng_source.specs.Given.{prepended, refused_with}
+use Rattle.pcapng_source.specs.Fields.{has, head_length, block_kind}
 use Rattle.pcapng_source.specs.Refusals.{refusal_of}
 use Rattle.pcapng_source.specs.Blocks.{blocks_from}
-use Rattle.pcapng_source.specs.Reading.{Goes, IsFitting, IsOpen, IsUnrefused, Judges, met_at, ready_at, behind, behind_words, rest_at, rest_of, stop_of, weight_at, weight_of}
+use Rattle.pcapng_source.specs.Reading.{Goes, IsFitting, IsUnrefused, Judges, met_at, ready_at, behind, behind_words, rest_at, rest_of, stop_of, weight_at, weight_of}
 use Rattle.pcap_source.specs.declared.order.Order.{Order}
 use Rattle.pcapng_source.specs.declared.fault.NgFault.{NgFault}
 use Rattle.pcapng_source.specs.declared.fault.NgFault.TheVariants.{TooManyBlocks}
@@ -16,7 +16,7 @@ use Rattle.pcapng_source.specs.declared.reader.Stage.{Stage}
 use Rattle.pcapng_source.specs.declared.reader.Stage.TheVariants.{Head, Body, Refused}
 use Rattle.pcapng_source.proofs.Numbers.{has-front, has-there}
 use Rattle.pcapng_source.proofs.Firm.{kind_of-front}
-use Rattle.pcapng_source.proofs.Blocks.{after-after, blocks-many, closed-short, has-short, head_length-least}
+use Rattle.pcapng_source.proofs.Blocks.{after-after, blocks-many, has-short, head_length-least}
 use Rattle.pcapng_source.proofs.Enters.{blocks-short, head-refused, head-waits}
 
 pub rest-at : (r : Reader) (stage : Stage) (left : List ℕ) → r.stage ≡ stage → rest_of r left ≡ prepended r.made (rest_at stage r left)

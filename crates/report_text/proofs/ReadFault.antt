@@ -23,7 +23,7 @@ use Rattle.report_text.proofs.ReadLine.{line-read}
 use Rattle.report_text.proofs.ReadCut.{one_line, line-ends, line-cut, front-ends, is-newline, no-newline}
 use Rattle.report_text.proofs.ReadFits.{both, read-fits}
 use Rattle.report_text.proofs.ReadRun.{text_of, records_lines, lines_of, run, run-append, run-none, text-append, report-lines, fit, report-fits, told}
-use Rattle.report_text.proofs.ReadPut.{all_of, lines, Stands, Grown, grown, stands-start, all-split}
+use Rattle.report_text.proofs.ReadPut.{all_of, lines, Stands, Grown, grown, all-split}
 
 -- a line that may stand in some report
 fit-ends : (l : Line) → fit l ≡ true → one_line (line_text l) ≡ true

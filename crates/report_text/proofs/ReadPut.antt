@@ -272,6 +272,3 @@ grown-from done last (Some t) l now h fits is = cc
 
 pub grown : (s : Taker) (l : Line) (now : Taker) → Stands s → fit l ≡ true → put s l ≡ Some now → Grown s l now
 grown s l now h fits is = grown-from s.done s.last s.totals l now h fits is
-
-pub stands-start : Stands start
-stands-start = record { rise = refl; each = refl; fits = refl; counts = λ t e. cc; begun = λ e. refl; ran = refl }

@@ -1,5 +1,5 @@
 -- Who knocks where nobody answers: the presets, what a call changes, and the fields.
-use Rattle.std.specs.Prelude.{◌≡◌, ℕ, ◌≤◌, Bool, true, false, ◌&&◌, ◌||◌, ◌==◌, if◌then◌else◌, List, [], ◌∷◌, length, refl, codes, IsTrue}
+use Rattle.std.specs.Prelude.{ℕ, ◌≤◌, Bool, true, false, ◌&&◌, ◌||◌, ◌==◌, if◌then◌else◌, List, [], ◌∷◌, length, refl, codes, IsTrue}
 use Rattle.std.specs.List.{list_all}
 use Rattle.std.proofs.Common.{lit≤}
 use Rattle.native_filters.specs.declared.facts.Facts.{Facts}
@@ -7,7 +7,6 @@ use Rattle.native_filters.specs.declared.facts.Hook.TheVariants.{Snd, Rcv}
 use Rattle.native_filters.specs.Native.{has_bits, native}
 use Rattle.app_api.specs.declared.app.Call.{Call}
 use Rattle.app_api.specs.declared.app.Tally.{Tally}
-use Rattle.app_api.specs.declared.registration.Reg.{Reg}
 use Rattle.app_api.specs.App.{Meaning, IsLawful, is_field_name}
 use Rattle.app_api.specs.Events.{PKT_IN, STATE, allows_hook}
 use Rattle.app_api.specs.Reaction.{asks_nothing}

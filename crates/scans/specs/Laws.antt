@@ -1,5 +1,5 @@
 -- What the tally is after any calls.
-use Rattle.std.specs.Prelude.{◌≡◌, ℕ, ◌%◌, ◌^◌, List, fold}
+use Rattle.std.specs.Prelude.{◌≡◌, ◌%◌, ◌^◌, List, fold}
 use Rattle.app_api.specs.declared.app.Call.{Call}
 use Rattle.app_api.specs.declared.app.Tally.{Tally}
 use Rattle.app_api.specs.Tally.{zeros}

@@ -6,7 +6,7 @@ use Rattle.clap.specs.Walk.{Held, Row, Text, Walk, finished, first_of, idle, has
 use Rattle.clap.specs.Matches.{first_value, found_of}
 use Rattle.clap.specs.Values.{kind_of}
 use Rattle.clap.specs.Kinds.{HasKind, Kinds, or_else}
-use Rattle.clap.specs.Simple.{App, HasMatchesOf, built, entered, is_simple, matches_of}
+use Rattle.clap.specs.Simple.{App, HasMatchesOf, entered, is_simple, matches_of}
 use Rattle.clap.specs.Faults.{check_fault, defaults_fault, entered_fault, fault_of, is_simple_and_free, settle_fault, walk_fault}
 use Rattle.clap.specs.declared.error.Error.{Error}
 use Rattle.clap.specs.declared.error.kind.ErrorKind.TheVariants.{OutOfMemory}

@@ -4,9 +4,7 @@ use Rattle.std.specs.Prelude.{IsOk, IsErrOf}
 use Rattle.mos_bytes.specs.Causes.{HasCauseOf}
 use Rattle.mos_bytes.specs.declared.source.Source.{Ghosts as Source}
 use Rattle.pcap_source.specs.Reading.{CaptureState, frames_at}
-use Rattle.pcap_source.specs.declared.errors.NextError.{NextError}
 use Rattle.pcap_source.specs.declared.errors.NextError.TheVariants as Next
-use Rattle.worker_pool.specs.Refused.{read_refusal}
 use Rattle.worker_pool.specs.Source.{EndsInTail, ReadsOn}
 use Rattle.worker_pool.specs.declared.job.PoolError.{PoolError}
 use Rattle.worker_pool.specs.declared.job.PoolError.TheVariants.{ReadFault, WriteFault, Heavy, NoMemory}
