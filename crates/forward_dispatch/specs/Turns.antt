@@ -34,6 +34,14 @@ module _ {L : Type 0} where
       pub inputs_are : AreInputs g script begins frames d.inputs.items
       pub all_answers_are : AreLaneAnswers begins d.way.all_answers.items
 
+    -- the packets of some frames were sent to workers that began somehow
+    abbrev pub HasSentSome : Dealing L → Type 0
+    HasSentSome d = (begins : List (Worker L)) × (frames : List Captured) × HasSent begins frames d
+
+    -- nothing was sent, and nothing has left
+    abbrev pub HasSentNone : Dealing L → Option (List ℕ) → Type 0
+    HasSentNone d out = (begins : List (Worker L)) × (before : Option (List ℕ)) × HasSent begins [] d × LeavesSo [] d before out
+
     -- the run has lanes, and sent the packets of some frames to workers that began somehow
     pub record IsUnderWay (d : Dealing L) : Type 0 where
       pub some : 1 ≤ length d.inputs.items

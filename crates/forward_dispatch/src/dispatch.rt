@@ -14,7 +14,7 @@ ghost use Rattle.worker_pool.specs.Inputs.{Dealt};
 ghost use Rattle.forward_dispatch.specs.Given.{given_by};
 ghost use Rattle.forward_dispatch.specs.OnTheirWay.{AreFew, sent_on};
 ghost use Rattle.forward_dispatch.specs.Streamed.{ReadsAndWrites, Streamed};
-ghost use Rattle.forward_dispatch.specs.Turns.{HasSent, IsUnderWay, LeavesSo, Settles, WentOn, SendsOne, IsRead, EndsSo};
+ghost use Rattle.forward_dispatch.specs.Turns.{HasSent, HasSentNone, HasSentSome, IsUnderWay, LeavesSo, Settles, WentOn, SendsOne, IsRead, EndsSo};
 
 use crate::lane_answers::LaneAnswers;
 use crate::on_their_way::{ON_THEIR_WAY, OnTheirWay};
@@ -116,8 +116,7 @@ impl<L: Recorder + Drop> Dealing<L> {
         most: usize,
         out: &mut O,
     ) -> Result<(), PoolError>
-        requires begins { (begins : List (Begun L)) × (frames : List Captured)
-            × HasSent L.Recorder context.now.script.now begins frames self.old }
+        requires begins { HasSentSome L.Recorder context.now.script.now self.old }
         ensures settles { Settles L.Recorder context.now.script.now self.old self.new
             (O.taken out.old) (O.taken out.new) (result ≢ Err PoolError.WriteFault) }
         ensures few { OnOk result (length self.new.way.lanes.items ≤ most) }
@@ -153,8 +152,7 @@ impl<L: Recorder + Drop> Dealing<L> {
         source: &S,
         out: &mut O,
     ) -> Result<(), PoolError>
-        requires begins { (begins : List (Begun L)) × (frames : List Captured)
-            × HasSent L.Recorder context.now.script.now begins frames self.old }
+        requires begins { HasSentSome L.Recorder context.now.script.now self.old }
         ensures settles { Settles L.Recorder context.now.script.now self.old self.new
             (O.taken out.old) (O.taken out.new) (result ≢ Err PoolError.WriteFault) }
         ensures place { OnOk result (length self.new.way.lanes.items < 4096) }
@@ -274,16 +272,13 @@ impl<L: Recorder + Drop> Dealing<L> {
     ) -> Result<Whole, PoolError>
         requires opened { Opened capture.old }
         requires some { 1 ≤ length self.old.inputs.items }
-        requires begins { (begins : List (Begun L)) × (before : Option (List ℕ))
-            × HasSent L.Recorder context.now.script.now begins [] self.old
-            × LeavesSo [] self.old before (O.taken out.old) }
+        requires begins { HasSentNone L.Recorder context.now.script.now self.old (O.taken out.old) }
         ensures read { (begins : List (Begun L)) (before : Option (List ℕ))
             → HasSent L.Recorder context.now.script.now begins [] self.old
             → LeavesSo [] self.old before (O.taken out.old)
             → (frames : List Captured) × IsRead L.Recorder context.now.script.now capture.old (S.left source.old)
             (S.left source.new) begins self.new before (O.taken out.new) frames result }
-        ensures sent { (begins : List (Begun L)) × (frames : List Captured)
-            × HasSent L.Recorder context.now.script.now begins frames self.new }
+        ensures sent { HasSentSome L.Recorder context.now.script.now self.new }
         ensures on_their_way { AreFew capture.new.count self.new.way }
         ensures outside { ReadsAndWrites S.Source O.Sink capture.old capture.new source.old source.new
             out.old out.new result }
@@ -304,8 +299,7 @@ impl<L: Recorder + Drop> Dealing<L> {
         out: &mut O,
         read: Result<Whole, PoolError>,
     ) -> Result<Whole, PoolError>
-        requires begins { (begins : List (Begun L)) × (frames : List Captured)
-            × HasSent L.Recorder context.now.script.now begins frames self.old }
+        requires begins { HasSentSome L.Recorder context.now.script.now self.old }
         ensures streamed { (begins : List (Begun L)) (frames : List Captured) (start : CaptureState)
             (first left before : Option (List ℕ))
             → IsRead L.Recorder context.now.script.now start first left begins self.old before (O.taken out.old)
@@ -341,9 +335,7 @@ impl<L: Recorder + Drop> Dealing<L> {
     ) -> Result<Whole, PoolError>
         requires opened { Opened capture.old }
         requires some { 1 ≤ length self.old.inputs.items }
-        requires begins { (begins : List (Begun L)) × (before : Option (List ℕ))
-            × HasSent L.Recorder context.now.script.now begins [] self.old
-            × LeavesSo [] self.old before (O.taken out.old) }
+        requires begins { HasSentNone L.Recorder context.now.script.now self.old (O.taken out.old) }
         ensures streamed { (begins : List (Begun L)) (before : Option (List ℕ))
             → HasSent L.Recorder context.now.script.now begins [] self.old
             → LeavesSo [] self.old before (O.taken out.old)

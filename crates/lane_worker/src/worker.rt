@@ -1,13 +1,13 @@
 //! A worker and its work.
 
-ghost use Rattle.std.specs.Prelude.{◌≡◌, ◌≤◌, [], ◌∷◌, length, IsTrue, None, true, false};
+ghost use Rattle.std.specs.Prelude.{◌≡◌, ◌+◌, ◌≤◌, [], ◌∷◌, length, if◌then◌else◌, IsTrue, None, true, false};
 ghost use Rattle.forest_versions.specs.Lawful.{are_lawful};
 ghost use Rattle.forest_versions.specs.State.{start};
 ghost use Rattle.control_script.specs.Order.{commands_of};
 ghost use Rattle.lane_rings.specs.Batch.{packets_of};
 ghost use Rattle.lane_rings.specs.Judging.{answers_to};
 ghost use Rattle.lane_rings.specs.Places.{lent};
-ghost use Rattle.lane_rings.specs.Ring.{known};
+ghost use Rattle.lane_rings.specs.Ring.{known, taken};
 ghost use Rattle.lane_worker.specs.Steps.{fits};
 ghost use Rattle.lane_worker.specs.Worked.{MayWork, IsReady, Worked};
 ghost use Rattle.lane_worker.specs.Turning.{TookUp, Judged};
@@ -137,6 +137,7 @@ pub fn take_turn<R: Wait, L: Recorder + Drop, G: Gate>(
     ensures worked { Worked L.Recorder (commands_of context.now.script.now) w.old w.new }
     ensures ready { MayWork L.Recorder (commands_of context.now.script.now) w.new }
     ensures none { result ≡ false → known w.new.packets ≡ [] }
+    ensures one { length (taken w.new.packets) ≡ length (taken w.old.packets) + (if result then 1 else 0) }
 {
     match take_from(&mut w.packets) {
         Some(batch) => {

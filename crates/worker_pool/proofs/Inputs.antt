@@ -1,10 +1,10 @@
 -- Inputs, and what was sent to them.
-use Rattle.std.proofs.Common.{◌≡◌, ◌≢◌, ℕ, ◌+◌, ◌<◌, None, List, [], ◌∷◌, ◌++◌, length, get_or, set, sym, ap, subst, ◌∙◌, append_assoc, arith, ⊎_elim}
+use Rattle.std.proofs.Common.{◌≡◌, ◌≢◌, ℕ, zero, suc, ◌+◌, ◌<◌, true, false, nat_lt, None, List, [], ◌∷◌, ◌++◌, length, get_or, set, sym, ap, subst, ◌∙◌, append_assoc, arith, ⊎_elim}
 use Rattle.std.specs.Prelude.{◌==◌, if◌then◌else◌}
 use Rattle.std.proofs.lemmas.List.{append-nil, get_or-set_same, get_or-set_other, length-set}
 use Rattle.std.proofs.lemmas.List.Concat.{flat_map-append}
 use Rattle.std.proofs.lemmas.List.Elements.{filter-append}
-use Rattle.std.proofs.lemmas.Bool.{cases_eq, eq-eqb, ne_eqb}
+use Rattle.std.proofs.lemmas.Bool.{cases_eq, cases_lt, eq-eqb, ne_eqb, lt-ltb, le-ltb}
 use Rattle.pcap_source.specs.Captured.{Captured}
 use Rattle.forest_versions.specs.declared.command.Command.{Command}
 use Rattle.control_script.specs.declared.stamped.Stamped.{Stamped}
@@ -23,7 +23,7 @@ use Rattle.lane_worker.specs.Worked.{IsReady, Worked}
 use Rattle.worker_pool.specs.Sent.{sent_as, packets_from, lane_of, dealt}
 use Rattle.worker_pool.specs.Inputs.{IsInput, AreInputs}
 use Rattle.lane_worker.proofs.Rings.{SameRx-refl}
-use Rattle.lane_worker.proofs.Beside.{ends_after}
+use Rattle.lane_worker.proofs.Beside.{ends_after, none_left}
 use Rattle.lane_worker.proofs.Composed.{worked_two}
 
 -- ---- the packets of one frame more
@@ -196,3 +196,22 @@ pub looked_at : {L : Type 0} (g : Ghosts L) (script : List Stamped) (begins : Li
 looked_at {L} g script begins frames inputs lane d at below are =
     let p = input_of g script begins frames inputs lane d are below in
     (p.0, p.1, subst (λ (q : LaneInput L). IsInput g (commands_of script) p.0 p.1 q) (sym at) p.2)
+
+-- one lane more has nothing left to be sent
+pub sent_one : {L : Type 0} (inputs : List (LaneInput L)) (lane : ℕ) (input : LaneInput L) → lane < length inputs → input.unsent ≡ []
+    → ((k : ℕ) (p : LaneInput L) → k < lane → (get_or inputs k p).unsent ≡ [])
+    → (k : ℕ) (p : LaneInput L) → k < lane + 1 → (get_or (set inputs lane input) k p).unsent ≡ []
+sent_one {L} inputs lane input below none before k p lt =
+    ⊎_elim
+    (λ earlier. ap (λ (q : LaneInput L). q.unsent) (get_or-set_other inputs lane k input p (λ is. absurd (omega (arith, is, earlier)))) ∙ before k p earlier)
+    (λ past.
+    let here : lane ≡ k = omega (arith, past, lt) in
+    subst (λ j. (get_or (set inputs lane input) j p).unsent ≡ []) here (ap (λ (q : LaneInput L). q.unsent) (get_or-set_same inputs lane input p below) ∙ none))
+    (cases_lt k lane)
+
+-- what was sent where there was something to send, and else left as it was, has nothing left to be sent
+pub sent_if_due : {L : Type 0} (n : ℕ) (seen old new : LaneInput L) → n ≡ length seen.unsent → seen ≡ old → (nat_lt 0 n ≡ true → new.unsent ≡ []) → (nat_lt 0 n ≡ false → new ≡ old)
+    → new.unsent ≡ []
+sent_if_due {L} zero seen old new count same due early =
+    ap (λ (q : LaneInput L). q.unsent) (early (le-ltb 0 0 (omega arith)) ∙ sym same) ∙ none_left seen.unsent (sym count)
+sent_if_due {L} (suc n) seen old new count same due early = due (lt-ltb 0 (suc n) (omega arith))

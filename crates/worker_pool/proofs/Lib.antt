@@ -15,3 +15,4 @@ mod Starting
 mod Crossed
 mod Onward
 pub mod Walking
+pub mod Telling

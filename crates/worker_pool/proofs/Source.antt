@@ -1,10 +1,9 @@
 -- What calls one after another did to the source of an opened capture.
-use Rattle.std.proofs.Common.{◌≡◌, ◌≤◌, ⊎_elim, ◌⊎◌, ℕ, List, [], Some, Result, Ok, Err, refl, sym, ap, subst, ◌∙◌, le_refl}
+use Rattle.std.proofs.Common.{◌≡◌, ◌≤◌, ⊎_elim, ◌⊎◌, ℕ, List, [], Some, Result, Ok, Err, sym, ap, subst, ◌∙◌, le_refl}
 use Rattle.std.specs.Prelude.{IsOk, IsErrOf}
 use Rattle.mos_bytes.specs.Causes.{HasCauseOf}
 use Rattle.mos_bytes.specs.declared.source.Source.{Ghosts as Source}
 use Rattle.pcap_source.specs.Reading.{CaptureState, frames_at}
-use Rattle.pcap_source.specs.declared.errors.NextError.TheVariants as Next
 use Rattle.worker_pool.specs.Source.{EndsInTail, ReadsOn}
 use Rattle.worker_pool.specs.declared.job.PoolError.{PoolError}
 use Rattle.worker_pool.specs.declared.job.PoolError.TheVariants.{ReadFault, WriteFault, Heavy, NoMemory}

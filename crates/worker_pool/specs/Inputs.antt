@@ -37,11 +37,37 @@ module _ {L : Type 0} where
     pub sent_are : packets_in (sent input.packets) ++ input.unsent ≡ packets
     pub placed : IsPlaced g script begin input.place
 
+  -- an input of some worker, to which some packets were given
+  abbrev pub IsSomeInput : Ghosts L → List Stamped → LaneInput L → Type 0
+  IsSomeInput g script input = (begin : Worker L) × (packets : List Packet) × IsInput g (commands_of script) begin packets input
+
+  -- whatever was given to an input, these packets were given to it besides
+  abbrev pub Gets : Ghosts L → List Stamped → List Packet → LaneInput L → LaneInput L → Type 0
+  Gets g script more a b = (begin : Worker L) (packets : List Packet) → IsInput g (commands_of script) begin packets a
+      → IsInput g (commands_of script) begin (packets ++ more) b
+
+  -- whatever was given to an input, no packet was given to it besides
+  abbrev pub IsKept : Ghosts L → List Stamped → LaneInput L → LaneInput L → Type 0
+  IsKept g script a b = (begin : Worker L) (packets : List Packet) → IsInput g (commands_of script) begin packets a
+      → IsInput g (commands_of script) begin packets b
+
   -- the inputs of workers that began so, to which the packets of these frames were sent, each to that of its lane
   pub record AreInputs (g : Ghosts L) (script : List Stamped) (begins : List (Worker L)) (frames : List Captured) (inputs : List (LaneInput L)) : Type 0 where
     pub count : length begins ≡ length inputs
     pub each : (k : ℕ) (w : Worker L) (p : LaneInput L) → k < length inputs
         → IsInput g (commands_of script) (get_or begins k w) (dealt (length inputs) k (packets_from script 0 frames)) (get_or inputs k p)
+
+  -- inputs of some workers, to which the packets of some frames were sent
+  abbrev pub AreSomeInputs : Ghosts L → List Stamped → List (LaneInput L) → Type 0
+  AreSomeInputs g script inputs = (begins : List (Worker L)) × (frames : List Captured) × AreInputs g script begins frames inputs
+
+  -- whatever was given to the inputs, no packet was given to them besides
+  abbrev pub AreKept : Ghosts L → List Stamped → List (LaneInput L) → List (LaneInput L) → Type 0
+  AreKept g script a b = (begins : List (Worker L)) (frames : List Captured) → AreInputs g script begins frames a → AreInputs g script begins frames b
+
+  -- nothing is left to be sent
+  abbrev pub AreSent : List (LaneInput L) → Type 0
+  AreSent inputs = (k : ℕ) (p : LaneInput L) → k < length inputs → (get_or inputs k p).unsent ≡ []
 
 -- a capture was read to its end: these frames, before a tail
 pub record HasRead (frames : List Captured) (capture : CaptureState) (old new : Option (List ℕ)) (whole : Whole) : Type 0 where

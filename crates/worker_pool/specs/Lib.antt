@@ -10,3 +10,4 @@ pub mod AtWork
 pub mod GoesOn
 pub mod Source
 pub mod Onward
+pub mod Telling

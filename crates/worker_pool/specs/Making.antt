@@ -1,7 +1,8 @@
 -- Not of the headline. Workers that are made one after the other.
-use Rattle.std.specs.Prelude.{◌≡◌, ℕ, ◌<◌, Bool, List, [], length, get_or, None}
+use Rattle.std.specs.Prelude.{◌≡◌, ℕ, ◌<◌, Bool, List, [], ◌∷◌, ◌++◌, length, get_or, Option, None}
 use Rattle.app_api.specs.App.{Meaning}
 use Rattle.forest_versions.specs.State.{start}
+use Rattle.lane_rings.specs.declared.items.AnswerBatch.{AnswerBatch}
 use Rattle.lane_rings.specs.declared.items.Batch.{Batch}
 use Rattle.lane_rings.specs.declared.ring.RingTx.{RingTx}
 use Rattle.lane_rings.specs.Ring.{sent, AreEnds}
@@ -27,6 +28,13 @@ module _ {L : Type 0} (g : Ghosts L) (app : Meaning) (keep : Bool) where
     pub each_ends : (k : ℕ) (w : Worker L) (tx : RingTx Batch) → k < length workers → AreEnds (get_or packets k tx) (get_or workers k w).packets
     pub kept : AllKeep g keep workers
     pub each_sent : (k : ℕ) (tx : RingTx Batch) → k < length packets → sent (get_or packets k tx) ≡ []
+
+-- one more worker, whose number is its place among them; it answers there
+pub record Adds {L : Type 0} (answers : Option (RingTx AnswerBatch)) (before after : List (Worker L)) : Type 0 where
+  pub worker : Worker L
+  pub answering : worker.answers ≡ answers
+  pub number : worker.number ≡ length before
+  pub behind : after ≡ before ++ worker ∷ []
 
 -- what holds of workers begun for an application holds of them with one over this lane, where that is fresh
 abbrev pub JoinsBegun : {L : Type 0} → Ghosts L → L → List (Worker L) → List (RingTx Batch) → List (Worker L) → List (RingTx Batch) → Type 0

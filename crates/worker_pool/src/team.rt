@@ -222,7 +222,10 @@ fn run_threads<
                 (λ frames. E.did feed.entry.now result.2.now workers.items frames result.0) }
             ensures same { result.2.ghost_name ≡ feed.entry.ghost_name }
         {
-            let control = start_control(scope, move || publish(commands, count, gate));
+            let control = start_control(scope, move || {
+                let mut commands = commands;
+                publish(&mut commands, count, gate);
+            });
             let mut inputs = start_all(scope, runner, script, stops, workers, packets, inputs);
             let read = feed.send_packets(&mut inputs);
             raise_all(stops);

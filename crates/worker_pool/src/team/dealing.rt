@@ -1,11 +1,10 @@
 //! A packet that goes to the input of its lane, and may wait there for others.
 
-ghost use Rattle.std.specs.Prelude.{◌≡◌, ◌<◌, ◌≤◌, [], ◌∷◌, List, length, IfOk, OnOk, OnErr};
+ghost use Rattle.std.specs.Prelude.{◌≡◌, ◌<◌, ◌≤◌, [], ◌∷◌, length, IfOk, OnOk, OnErr};
 ghost use Rattle.ip6_views.specs.Sight.{sight_of, lane_of_sight};
 ghost use Rattle.pcap_source.specs.Captured.{Captured};
 ghost use Rattle.lane_rings.specs.Places.{lent};
-ghost use Rattle.lane_worker.specs.declared.worker.Worker.{Worker as Begun};
-ghost use Rattle.worker_pool.specs.Inputs.{AreInputs};
+ghost use Rattle.worker_pool.specs.Inputs.{AreKept};
 ghost use Rattle.worker_pool.specs.Onward.{Deals, WereDealt};
 ghost use Rattle.worker_pool.specs.Sent.{sent_as};
 
@@ -37,9 +36,7 @@ pub(crate) fn deal_packet<R: Wait, L: Recorder + Drop, G: Gate>(
     ensures dealt { OnOk result ((frame : Captured)
         → lent packet.now ≡ sent_as context.now.script.now packet.now.index frame
         → Deals L.Recorder context.now.script.now packet.now.index (frame ∷ []) inputs.old.items inputs.new.items) }
-    ensures kept { OnErr result ((begins : List (Begun L)) (frames : List Captured)
-        → AreInputs L.Recorder context.now.script.now begins frames inputs.old.items
-        → AreInputs L.Recorder context.now.script.now begins frames inputs.new.items) }
+    ensures kept { OnErr result (AreKept L.Recorder context.now.script.now inputs.old.items inputs.new.items) }
 {
     let lane = lane_of_frame(packet.bytes, inputs.len());
     deal_to(context, &mut inputs[lane], used, lane, packet)?;
@@ -61,9 +58,7 @@ pub fn deal_frame<R: Wait, L: Recorder + Drop, G: Gate>(
     ensures count { length inputs.new.items ≡ length inputs.old.items }
     ensures dealt { OnOk result
         (Deals L.Recorder context.now.script.now index (frame.now ∷ []) inputs.old.items inputs.new.items) }
-    ensures kept { OnErr result ((begins : List (Begun L)) (frames : List Captured)
-        → AreInputs L.Recorder context.now.script.now begins frames inputs.old.items
-        → AreInputs L.Recorder context.now.script.now begins frames inputs.new.items) }
+    ensures kept { OnErr result (AreKept L.Recorder context.now.script.now inputs.old.items inputs.new.items) }
 {
     let floor = context.script.floor(index);
     let ceil = context.script.ceil(index);

@@ -1,10 +1,9 @@
 //! Reads a capture, and sends each packet to its lane.
 
 ghost use Rattle.std.specs.Prelude.{◌≡◌, ◌≤◌, [], List, length, IsOk, IsErrOf, false};
-ghost use Rattle.pcap_source.specs.Captured.{Captured};
 ghost use Rattle.pcap_source.specs.Reading.{Opened};
 ghost use Rattle.lane_worker.specs.declared.worker.Worker.{Worker as Begun};
-ghost use Rattle.worker_pool.specs.Inputs.{AreInputs, Dealt, ReadsAs};
+ghost use Rattle.worker_pool.specs.Inputs.{AreInputs, AreKept, AreSomeInputs, Dealt, ReadsAs};
 ghost use Rattle.worker_pool.specs.Source.{ReadsOn};
 
 use crate::team::dealing::deal_frame;
@@ -39,11 +38,8 @@ fn flush_before_read<R: Wait, L: Recorder + Drop, S: Source, G: Gate>(
     source: &S,
     used: &mut [BatchRx],
 )
-    requires inputs { (begins : List (Begun L)) × (frames : List Captured)
-        × AreInputs L.Recorder context.now.script.now begins frames inputs.old.items }
-    ensures { (begins : List (Begun L)) (frames : List Captured)
-        → AreInputs L.Recorder context.now.script.now begins frames inputs.old.items
-        → AreInputs L.Recorder context.now.script.now begins frames inputs.new.items }
+    requires inputs { AreSomeInputs L.Recorder context.now.script.now inputs.old.items }
+    ensures { AreKept L.Recorder context.now.script.now inputs.old.items inputs.new.items }
 {
     if !capture.is_at_hand(source) {
         flush_all(context, inputs, used);

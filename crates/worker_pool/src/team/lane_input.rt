@@ -1,13 +1,9 @@
 //! What feeds a lane: where its packets are sent.
 
-ghost use Rattle.std.specs.Prelude.{◌≡◌, ◌++◌, [], ◌∷◌, List, OnOk, OnErr};
-ghost use Rattle.control_script.specs.Order.{commands_of};
-ghost use Rattle.lane_rings.specs.declared.items.Packet.{Packet as Sent};
+ghost use Rattle.std.specs.Prelude.{◌≡◌, ◌<◌, [], ◌∷◌, length, IsTrue, false, OnOk, OnErr};
 ghost use Rattle.lane_rings.specs.Batch.{packets_of};
 ghost use Rattle.lane_rings.specs.Places.{lent};
-ghost use Rattle.lane_worker.specs.declared.worker.Worker.{Worker as Begun};
-ghost use Rattle.pcap_source.specs.Captured.{Captured};
-ghost use Rattle.worker_pool.specs.Inputs.{IsInput, AreInputs};
+ghost use Rattle.worker_pool.specs.Inputs.{IsSomeInput, Gets, IsKept, AreSomeInputs, AreKept, AreSent};
 
 use crate::team::worker_place::WorkerPlace;
 use lane_core::Recorder;
@@ -37,11 +33,8 @@ fn take_turn_here<R: Wait, L: Recorder + Drop, G: Gate>(
     context: &WorkerContext<'_, R, G>,
     input: &mut LaneInput<L>,
 ) -> bool
-    requires input { (begin : Begun L) × (packets : List Sent)
-        × IsInput L.Recorder (commands_of context.now.script.now) begin packets input.old }
-    ensures input { (begin : Begun L) (packets : List Sent)
-        → IsInput L.Recorder (commands_of context.now.script.now) begin packets input.old
-        → IsInput L.Recorder (commands_of context.now.script.now) begin packets input.new }
+    requires input { IsSomeInput L.Recorder context.now.script.now input.old }
+    ensures input { IsKept L.Recorder context.now.script.now input.old input.new }
     ensures unsent { input.new.unsent ≡ input.old.unsent }
 {
     match &mut input.place {
@@ -55,11 +48,8 @@ pub fn take_turns<R: Wait, L: Recorder + Drop, G: Gate>(
     context: &WorkerContext<'_, R, G>,
     inputs: &mut Vec<LaneInput<L>>,
 ) -> bool
-    requires inputs { (begins : List (Begun L)) × (frames : List Captured)
-        × AreInputs L.Recorder context.now.script.now begins frames inputs.old.items }
-    ensures { (begins : List (Begun L)) (frames : List Captured)
-        → AreInputs L.Recorder context.now.script.now begins frames inputs.old.items
-        → AreInputs L.Recorder context.now.script.now begins frames inputs.new.items }
+    requires inputs { AreSomeInputs L.Recorder context.now.script.now inputs.old.items }
+    ensures { AreKept L.Recorder context.now.script.now inputs.old.items inputs.new.items }
 {
     let mut took = false;
     for lane in 0..inputs.len() {
@@ -75,12 +65,9 @@ fn send_batch<R: Wait, L: Recorder + Drop, G: Gate>(
     input: &mut LaneInput<L>,
     batch: Batch,
 )
-    requires input { (begin : Begun L) × (packets : List Sent)
-        × IsInput L.Recorder (commands_of context.now.script.now) begin packets input.old }
+    requires input { IsSomeInput L.Recorder context.now.script.now input.old }
     requires closed { input.old.unsent ≡ [] }
-    ensures input { (begin : Begun L) (packets : List Sent)
-        → IsInput L.Recorder (commands_of context.now.script.now) begin packets input.old
-        → IsInput L.Recorder (commands_of context.now.script.now) begin (packets ++ packets_of batch) input.new }
+    ensures input { Gets L.Recorder context.now.script.now (packets_of batch) input.old input.new }
     ensures closed { input.new.unsent ≡ [] }
 {
     let mut batch = batch;
@@ -106,12 +93,9 @@ pub(crate) fn flush<R: Wait, L: Recorder + Drop, G: Gate>(
     input: &mut LaneInput<L>,
     fresh: FlatBatch,
 )
-    requires input { (begin : Begun L) × (packets : List Sent)
-        × IsInput L.Recorder (commands_of context.now.script.now) begin packets input.old }
+    requires input { IsSomeInput L.Recorder context.now.script.now input.old }
     requires fresh { fresh ≡ [] }
-    ensures input { (begin : Begun L) (packets : List Sent)
-        → IsInput L.Recorder (commands_of context.now.script.now) begin packets input.old
-        → IsInput L.Recorder (commands_of context.now.script.now) begin packets input.new }
+    ensures input { IsKept L.Recorder context.now.script.now input.old input.new }
     ensures closed { input.new.unsent ≡ [] }
 {
     if input.unsent.len() == 0 {
@@ -127,11 +111,8 @@ pub(crate) fn send_to<R: Wait, L: Recorder + Drop, G: Gate>(
     input: &mut LaneInput<L>,
     packet: Packet,
 )
-    requires input { (begin : Begun L) × (packets : List Sent)
-        × IsInput L.Recorder (commands_of context.now.script.now) begin packets input.old }
-    ensures { (begin : Begun L) (packets : List Sent)
-        → IsInput L.Recorder (commands_of context.now.script.now) begin packets input.old
-        → IsInput L.Recorder (commands_of context.now.script.now) begin (packets ++ packet ∷ []) input.new }
+    requires input { IsSomeInput L.Recorder context.now.script.now input.old }
+    ensures { Gets L.Recorder context.now.script.now (packet ∷ []) input.old input.new }
 {
     flush(context, input, FlatBatch::new(context.alloc));
     send_batch(context, input, Batch::Single(packet));
@@ -158,7 +139,9 @@ fn emptied(batch: FlatBatch) -> FlatBatch
 }
 
 // Whether a batch is to be sent.
-fn is_full(batch: &FlatBatch) -> bool {
+fn is_full(batch: &FlatBatch) -> bool
+    ensures { result ≡ false → length batch.now < 64 }
+{
     batch.len() >= PACKETS_IN_BATCH || batch.byte_count() >= BYTES_IN_BATCH
 }
 
@@ -169,14 +152,9 @@ fn add_to<R: Wait, L: Recorder + Drop, G: Gate>(
     input: &mut LaneInput<L>,
     packet: &LentPacket<'_>,
 ) -> Result<(), AllocError>
-    requires input { (begin : Begun L) × (packets : List Sent)
-        × IsInput L.Recorder (commands_of context.now.script.now) begin packets input.old }
-    ensures added { OnOk result ((begin : Begun L) (packets : List Sent)
-        → IsInput L.Recorder (commands_of context.now.script.now) begin packets input.old
-        → IsInput L.Recorder (commands_of context.now.script.now) begin (packets ++ lent packet.now ∷ []) input.new) }
-    ensures kept { OnErr result ((begin : Begun L) (packets : List Sent)
-        → IsInput L.Recorder (commands_of context.now.script.now) begin packets input.old
-        → IsInput L.Recorder (commands_of context.now.script.now) begin packets input.new) }
+    requires input { IsSomeInput L.Recorder context.now.script.now input.old }
+    ensures added { OnOk result (Gets L.Recorder context.now.script.now (lent packet.now ∷ []) input.old input.new) }
+    ensures kept { OnErr result (IsKept L.Recorder context.now.script.now input.old input.new) }
 {
     match input.unsent.push(packet) {
         Ok(()) => Ok(()),
@@ -191,11 +169,8 @@ fn send_own<R: Wait, L: Recorder + Drop, G: Gate>(
     input: &mut LaneInput<L>,
     packet: &LentPacket<'_>,
 ) -> Result<(), AllocError>
-    requires input { (begin : Begun L) × (packets : List Sent)
-        × IsInput L.Recorder (commands_of context.now.script.now) begin packets input.old }
-    ensures sent { OnOk result ((begin : Begun L) (packets : List Sent)
-        → IsInput L.Recorder (commands_of context.now.script.now) begin packets input.old
-        → IsInput L.Recorder (commands_of context.now.script.now) begin (packets ++ lent packet.now ∷ []) input.new) }
+    requires input { IsSomeInput L.Recorder context.now.script.now input.old }
+    ensures sent { OnOk result (Gets L.Recorder context.now.script.now (lent packet.now ∷ []) input.old input.new) }
     ensures unchanged { OnErr result (input.new ≡ input.old) }
 {
     let own = packet.to_packet(context.alloc)?;
@@ -213,14 +188,12 @@ pub(crate) fn deal_to<R: Wait, L: Recorder + Drop, G: Gate>(
     lane: usize,
     packet: &LentPacket<'_>,
 ) -> Result<(), AllocError>
-    requires input { (begin : Begun L) × (packets : List Sent)
-        × IsInput L.Recorder (commands_of context.now.script.now) begin packets input.old }
-    ensures dealt { OnOk result ((begin : Begun L) (packets : List Sent)
-        → IsInput L.Recorder (commands_of context.now.script.now) begin packets input.old
-        → IsInput L.Recorder (commands_of context.now.script.now) begin (packets ++ lent packet.now ∷ []) input.new) }
-    ensures kept { OnErr result ((begin : Begun L) (packets : List Sent)
-        → IsInput L.Recorder (commands_of context.now.script.now) begin packets input.old
-        → IsInput L.Recorder (commands_of context.now.script.now) begin packets input.new) }
+    requires input { IsSomeInput L.Recorder context.now.script.now input.old }
+    ensures dealt { OnOk result (Gets L.Recorder context.now.script.now (lent packet.now ∷ []) input.old input.new) }
+    ensures kept { OnErr result (IsKept L.Recorder context.now.script.now input.old input.new) }
+
+    // What is unsent stays shorter than a batch.
+    ensures few { OnOk result (length input.new.unsent < 64) }
 {
     add_to(context, input, packet)?;
     let is_due = is_full(&input.unsent);
@@ -234,11 +207,9 @@ pub fn flush_all<R: Wait, L: Recorder + Drop, G: Gate>(
     inputs: &mut Vec<LaneInput<L>>,
     used: &mut [BatchRx],
 )
-    requires inputs { (begins : List (Begun L)) × (frames : List Captured)
-        × AreInputs L.Recorder context.now.script.now begins frames inputs.old.items }
-    ensures { (begins : List (Begun L)) (frames : List Captured)
-        → AreInputs L.Recorder context.now.script.now begins frames inputs.old.items
-        → AreInputs L.Recorder context.now.script.now begins frames inputs.new.items }
+    requires inputs { AreSomeInputs L.Recorder context.now.script.now inputs.old.items }
+    ensures kept { AreKept L.Recorder context.now.script.now inputs.old.items inputs.new.items }
+    ensures sent { AreSent inputs.new.items }
 {
     for lane in 0..inputs.len() {
         let is_due = inputs[lane].unsent.len() > 0;
@@ -254,11 +225,10 @@ fn flush_due<R: Wait, L: Recorder + Drop, G: Gate>(
     lane: usize,
     is_due: bool,
 )
-    requires input { (begin : Begun L) × (packets : List Sent)
-        × IsInput L.Recorder (commands_of context.now.script.now) begin packets input.old }
-    ensures { (begin : Begun L) (packets : List Sent)
-        → IsInput L.Recorder (commands_of context.now.script.now) begin packets input.old
-        → IsInput L.Recorder (commands_of context.now.script.now) begin packets input.new }
+    requires input { IsSomeInput L.Recorder context.now.script.now input.old }
+    ensures kept { IsKept L.Recorder context.now.script.now input.old input.new }
+    ensures due { IsTrue is_due → input.new.unsent ≡ [] }
+    ensures early { is_due ≡ false → input.new ≡ input.old }
 {
     if is_due {
         flush(context, input, fresh_batch(context.alloc, used, lane));

@@ -1,9 +1,8 @@
 //! Makes the workers of a run.
 
-ghost use Rattle.std.specs.Prelude.{◌≡◌, ◌+◌, ◌++◌, ◌≤◌, [], ◌∷◌, Bool, true, length, IfOk, OnOk};
+ghost use Rattle.std.specs.Prelude.{◌≡◌, ◌+◌, ◌≤◌, Bool, true, length, IfOk, OnOk};
 ghost use Rattle.app_api.specs.App.{Meaning};
-ghost use Rattle.worker_pool.specs.Making.{IsFresh, AreBegun, JoinsBegun};
-ghost use Rattle.lane_worker.specs.declared.worker.Worker.{Worker as Begun};
+ghost use Rattle.worker_pool.specs.Making.{Adds, IsFresh, AreBegun, JoinsBegun};
 ghost use Rattle.worker_pool.specs.Team.{IsTeam, AllKeep};
 
 use crate::job::Job;
@@ -46,8 +45,7 @@ fn enlist_with<L: Recorder + Drop>(
     requires places { 1 ≤ places }
     ensures begun { OnOk result (JoinsBegun L.Recorder lane team.old.workers.items team.old.packets.items
         team.new.workers.items team.new.packets.items) }
-    ensures added { OnOk result ((w : Begun L) × (w.answers ≡ answers)
-        × (team.new.workers.items ≡ team.old.workers.items ++ w ∷ [])) }
+    ensures added { OnOk result (Adds answers team.old.workers.items team.new.workers.items) }
     ensures count { OnOk result (length team.new.workers.items ≡ length team.old.workers.items + 1) }
 {
     let (packets_tx, packets) = batch_ring(alloc, waiting)?;
@@ -78,8 +76,7 @@ pub fn enlist<L: Recorder + Drop>(
     requires places { 1 ≤ places }
     ensures begun { OnOk result (JoinsBegun L.Recorder lane team.old.workers.items team.old.packets.items
         team.new.workers.items team.new.packets.items) }
-    ensures added { OnOk result ((w : Begun L) × (w.answers ≡ answers)
-        × (team.new.workers.items ≡ team.old.workers.items ++ w ∷ [])) }
+    ensures added { OnOk result (Adds answers team.old.workers.items team.new.workers.items) }
     ensures count { OnOk result (length team.new.workers.items ≡ length team.old.workers.items + 1) }
 {
     enlist_with(alloc, team, lane, WAITING_BATCHES, places, answers, used)

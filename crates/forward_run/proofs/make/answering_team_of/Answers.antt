@@ -17,8 +17,8 @@ loop-preserved g c =
           c.in_ok-enlist.ensures.begun app keep
           (IfOk-at_ok (λ lane. IsFresh g.L.Recorder app keep lane) c.in_ok-lane.was (fresh c.make.result c.make.ensures))
           (c.loop.invariant.begun app keep fresh);
-      all_answers = rw (added.2, c.in_ok-push.ensures.items) (more_unused c.loop.team.workers.items c.loop.all_answers.items added.0 lane_answers.result c.loop.invariant.all_answers
-          (record { ring = c.in_ok-answers_tx.answers_tx; answers = added.1; unsent = ring.sent.0; ends = rw lane_answers.ensures.ring ring.ends })
+      all_answers = rw (added.behind, c.in_ok-push.ensures.items) (more_unused c.loop.team.workers.items c.loop.all_answers.items added.worker lane_answers.result c.loop.invariant.all_answers
+          (record { ring = c.in_ok-answers_tx.answers_tx; answers = added.answering; unsent = ring.sent.0; ends = rw lane_answers.ensures.ring ring.ends })
           lane_answers.ensures.given);
       count = c.in_ok-enlist.ensures.count ∙ ap (λ n. n + 1) c.loop.invariant.count;
       used = rw (c.in_ok-push-2.ensures.items, length_push, c.loop.invariant.used);

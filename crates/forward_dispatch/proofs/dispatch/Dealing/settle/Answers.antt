@@ -10,7 +10,7 @@ flush_all-requires g c =
 
 pub loop-init : goal.loop-init
 loop-init g c = record {
-  inputs = λ begins frames are. c.flush_all.ensures begins frames are;
+  inputs = λ begins frames are. c.flush_all.ensures.kept begins frames are;
   newest = refl;
   leaves = leaves_same c.the_next_leaves.ensures.some c.args.self.now.way (g.O.Sink.taken c.args.out.now) ⊤;
   faults = le_refl _;

@@ -6,4 +6,4 @@ flush_due-requires g c =
     record { input = (given.0, _, c.in_ok-add_to.ensures.added given.0 given.1 given.2) }
 
 pub returns-clause-dealt : goal.returns-clause-dealt
-returns-clause-dealt g c = λ begin packets p. c.flush_due.ensures begin _ (c.in_ok-add_to.ensures.added begin packets p)
+returns-clause-dealt g c = λ begin packets p. c.flush_due.ensures.kept begin _ (c.in_ok-add_to.ensures.added begin packets p)

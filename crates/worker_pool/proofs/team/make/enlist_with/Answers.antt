@@ -1,3 +1,4 @@
+use Rattle.std.proofs.Common.{refl, arith}
 use Rattle.worker_pool.proofs.Making.{begun_more}
 use Rattle.worker_pool.proofs.team.make.enlist_with.Goals as goal
 
@@ -26,3 +27,18 @@ returns-clause-begun g c = λ app keep fresh begun.
       commands = c.in_ok-commands_tx.ensures.taken.0;
     })
     fresh.keeps c.in_ok-packets_tx.ensures.ends c.in_ok-packets_tx.ensures.sent.0)
+
+pub returns-clause-added : goal.returns-clause-added
+returns-clause-added g c = record {
+  worker = record {
+    number = c.len.result;
+    lane = c.args.lane;
+    packets = c.in_ok-packets_tx.packets;
+    commands = c.in_ok-commands_tx.commands;
+    answers = c.args.answers;
+    used = c.args.used;
+  };
+  answering = refl;
+  number = omega (arith, c.len.ensures, c.args.team.now.workers.ok.0);
+  behind = c.in_ok-push.ensures.items;
+}
