@@ -1,9 +1,10 @@
 -- Inputs, and what was sent to them.
-use Rattle.std.proofs.Common.{◌≡◌, ◌≢◌, ℕ, zero, suc, ◌+◌, ◌<◌, true, false, nat_lt, None, List, [], ◌∷◌, ◌++◌, length, get_or, set, sym, ap, subst, ◌∙◌, append_assoc, arith, ⊎_elim}
+use Rattle.std.proofs.Common.{◌≡◌, ◌≢◌, ℕ, zero, suc, ◌+◌, ◌<◌, Bool, true, false, ◌||◌, true≢false, refl, nat_lt, None, List, [], ◌∷◌, ◌++◌, length, get_or, set, sym, ap, subst, ◌∙◌, append_assoc, arith, ⊎_elim}
 use Rattle.std.specs.Prelude.{◌==◌, if◌then◌else◌}
 use Rattle.std.proofs.lemmas.List.{append-nil, get_or-set_same, get_or-set_other, length-set}
 use Rattle.std.proofs.lemmas.List.Concat.{flat_map-append}
 use Rattle.std.proofs.lemmas.List.Elements.{filter-append}
+use Rattle.std.proofs.lemmas.List.Sums.{sum_by-set}
 use Rattle.std.proofs.lemmas.Bool.{cases_eq, cases_lt, eq-eqb, ne_eqb, lt-ltb, le-ltb}
 use Rattle.pcap_source.specs.Captured.{Captured}
 use Rattle.forest_versions.specs.declared.command.Command.{Command}
@@ -21,7 +22,7 @@ use Rattle.worker_pool.specs.declared.team.worker_place.WorkerPlace.TheVariants.
 use Rattle.worker_pool.specs.declared.team.lane_input.LaneInput.{LaneInput}
 use Rattle.lane_worker.specs.Worked.{IsReady, Worked}
 use Rattle.worker_pool.specs.Sent.{sent_as, packets_from, lane_of, dealt}
-use Rattle.worker_pool.specs.Inputs.{IsInput, AreInputs}
+use Rattle.worker_pool.specs.Inputs.{IsInput, AreInputs, taken_inline, batches_taken}
 use Rattle.lane_worker.proofs.Rings.{SameRx-refl}
 use Rattle.lane_worker.proofs.Beside.{ends_after, none_left}
 use Rattle.lane_worker.proofs.Composed.{worked_two}
@@ -196,6 +197,22 @@ pub looked_at : {L : Type 0} (g : Ghosts L) (script : List Stamped) (begins : Li
 looked_at {L} g script begins frames inputs lane d at below are =
     let p = input_of g script begins frames inputs lane d are below in
     (p.0, p.1, subst (λ (q : LaneInput L). IsInput g (commands_of script) p.0 p.1 q) (sym at) p.2)
+
+-- one worker more took its turn: what all took is more by what it took
+pub one_more_turn : {L : Type 0} (inputs : List (LaneInput L)) (lane : ℕ) (d input : LaneInput L) (more : ℕ) → lane < length inputs → d ≡ get_or inputs lane d
+    → taken_inline input.place ≡ taken_inline d.place + more → batches_taken (set inputs lane input) ≡ batches_taken inputs + more
+one_more_turn {L} inputs lane d input more below at took =
+    let sums = sum_by-set (λ (q : LaneInput L). taken_inline q.place) inputs lane input d below in
+    let here : taken_inline d.place ≡ taken_inline (get_or inputs lane d).place = ap (λ (q : LaneInput L). taken_inline q.place) at in
+    omega (arith, sums, here, took)
+
+-- whether one took a batch, after one turn more
+pub turned : (before now later : ℕ) (took more : Bool) → later ≡ now + (if more then 1 else 0)
+    → (took ≡ true → before < now) → (took ≡ false → now ≡ before)
+    → ((took || more) ≡ true → before < later) × ((took || more) ≡ false → later ≡ before)
+turned before now later true more step some none = (λ _. let was = some refl in omega (arith, was, step), λ is. absurd (true≢false is))
+turned before now later false true step some none = (λ _. let was = none refl in omega (arith, was, step), λ is. absurd (true≢false is))
+turned before now later false false step some none = (λ is. absurd (true≢false (sym is)), λ _. let was = none refl in omega (arith, was, step))
 
 -- one lane more has nothing left to be sent
 pub sent_one : {L : Type 0} (inputs : List (LaneInput L)) (lane : ℕ) (input : LaneInput L) → lane < length inputs → input.unsent ≡ []

@@ -1,5 +1,5 @@
 -- Not of the headline. What lanes are fed by, and what was sent to them.
-use Rattle.std.specs.Prelude.{◌≡◌, ℕ, ◌<◌, ◌≤◌, List, [], ◌++◌, length, get_or, Option, Some, IsTrue, Result, Ok, Err, ⊤}
+use Rattle.std.specs.Prelude.{◌≡◌, ℕ, ◌<◌, ◌≤◌, List, [], ◌++◌, length, sum_by, get_or, Option, Some, IsTrue, Result, Ok, Err, ⊤}
 use Rattle.pcap_source.specs.Captured.{Captured}
 use Rattle.pcap_source.specs.Capture.{tail, too_long, too_many}
 use Rattle.pcap_source.specs.Reading.{CaptureState, frames_at}
@@ -12,7 +12,7 @@ use Rattle.control_script.specs.declared.stamped.Stamped.{Stamped}
 use Rattle.control_script.specs.Order.{commands_of}
 use Rattle.lane_rings.specs.declared.items.Packet.{Packet}
 use Rattle.lane_rings.specs.Batch.{packets_in}
-use Rattle.lane_rings.specs.Ring.{sent, AreEnds}
+use Rattle.lane_rings.specs.Ring.{sent, taken, AreEnds}
 use Rattle.lane_core.specs.declared.recorder.Recorder.{Ghosts}
 use Rattle.lane_core.specs.Sight.{arrivals}
 use Rattle.run_outcome.specs.Greatest.{greatest}
@@ -29,6 +29,11 @@ module _ {L : Type 0} where
   abbrev pub IsPlaced : Ghosts L → List Command → Worker L → WorkerPlace L → Type 0
   IsPlaced g script begin (Thread handle) = (handle.promise.start.value ≡ begin) × (commands_of handle.promise.script.value ≡ script)
   IsPlaced g script begin (Inline worker) = WorkedOn g script begin worker
+
+  -- how many batches a worker took out of its ring in this thread
+  abbrev pub taken_inline : WorkerPlace L → ℕ
+  taken_inline (Thread handle) = 0
+  taken_inline (Inline worker) = length (taken worker.packets)
 
   -- the input of a worker that began so, to which these packets were given: they were sent, or are still unsent
   pub record IsInput (g : Ghosts L) (script : List Command) (begin : Worker L) (packets : List Packet) (input : LaneInput L) : Type 0 where
@@ -64,6 +69,10 @@ module _ {L : Type 0} where
   -- whatever was given to the inputs, no packet was given to them besides
   abbrev pub AreKept : Ghosts L → List Stamped → List (LaneInput L) → List (LaneInput L) → Type 0
   AreKept g script a b = (begins : List (Worker L)) (frames : List Captured) → AreInputs g script begins frames a → AreInputs g script begins frames b
+
+  -- how many batches the workers of all inputs took in this thread
+  abbrev pub batches_taken : List (LaneInput L) → ℕ
+  batches_taken inputs = sum_by (λ input. taken_inline input.place) inputs
 
   -- nothing is left to be sent
   abbrev pub AreSent : List (LaneInput L) → Type 0

@@ -15,8 +15,8 @@ fn tell_all(lanes: &mut [CommandTx], place: u32)
     }
 }
 
-/// Tells all lanes of each of so many commands, in order, while the capture is read. Each has room for all of them, so that
-/// none is left out. It never waits but at the gate.
+/// Tells all lanes of each of so many commands, in order, while the capture is read. Where a lane's ring has room for all of
+/// them, none is left out. It never waits but at the gate.
 pub(crate) fn publish<G: Gate>(lanes: &mut [CommandTx], count: u32, gate: &G)
     ensures { AllZip (HasTold count) lanes.old lanes.new }
 {

@@ -26,7 +26,7 @@ pub loop-preserved : goal.loop-preserved
 loop-preserved g c =
     let inv = c.loop.invariant in
     record {
-      inputs = λ begins frames are. c.take_turns-worked.ensures begins frames (inv.inputs begins frames are);
+      inputs = λ begins frames are. c.take_turns-worked.ensures.kept begins frames (inv.inputs begins frames are);
       newest = inv.newest;
       leaves = leaves_well c.args.self.now.way c.loop.self.way c.write_ready.new.self (g.O.Sink.taken c.args.out.now) (g.O.Sink.taken c.loop.out) (g.O.Sink.taken c.write_ready.new.out) inv.leaves _ c.write_ready.result ⊤
           c.in_ok-write_ready.was c.write_ready.ensures.leaves;

@@ -1,10 +1,14 @@
-use Rattle.std.proofs.Common.{List}
+use Rattle.std.proofs.Common.{◌≡◌, ◌<◌, true, false, List}
 use Rattle.pcap_source.specs.Captured.{Captured}
 use Rattle.lane_worker.specs.declared.worker.Worker.{Worker}
-use Rattle.worker_pool.specs.Inputs.{AreInputs}
+use Rattle.worker_pool.specs.Inputs.{AreInputs, batches_taken}
 use Rattle.worker_pool.proofs.team.lane_input.take_turns.Given as goal
 
--- nothing was sent
+-- nothing was sent, and it is known whether a batch was taken
 abbrev pub invariant-loop-lane : goal.invariant-loop-lane
-invariant-loop-lane g l = (begins : List (Worker g.row.L.Denot)) (frames : List Captured) → AreInputs g.L.Recorder l.context.script.now begins frames l.fn.inputs.items
-    → AreInputs g.L.Recorder l.context.script.now begins frames l.inputs.items
+invariant-loop-lane g l = record {
+  kept : (begins : List (Worker g.row.L.Denot)) (frames : List Captured) → AreInputs g.L.Recorder l.context.script.now begins frames l.fn.inputs.items
+      → AreInputs g.L.Recorder l.context.script.now begins frames l.inputs.items;
+  took : l.took ≡ true → batches_taken l.fn.inputs.items < batches_taken l.inputs.items;
+  none : l.took ≡ false → batches_taken l.inputs.items ≡ batches_taken l.fn.inputs.items;
+}
