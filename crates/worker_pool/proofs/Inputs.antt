@@ -198,6 +198,11 @@ looked_at {L} g script begins frames inputs lane d at below are =
     let p = input_of g script begins frames inputs lane d are below in
     (p.0, p.1, subst (λ (q : LaneInput L). IsInput g (commands_of script) p.0 p.1 q) (sym at) p.2)
 
+-- neither of two
+pub neither : (a b : Bool) → (a || b) ≡ false → (a ≡ false) × (b ≡ false)
+neither true b is = absurd (true≢false is)
+neither false b is = (refl, is)
+
 -- one worker more took its turn: what all took is more by what it took
 pub one_more_turn : {L : Type 0} (inputs : List (LaneInput L)) (lane : ℕ) (d input : LaneInput L) (more : ℕ) → lane < length inputs → d ≡ get_or inputs lane d
     → taken_inline input.place ≡ taken_inline d.place + more → batches_taken (set inputs lane input) ≡ batches_taken inputs + more
@@ -214,16 +219,16 @@ turned before now later true more step some none = (λ _. let was = some refl in
 turned before now later false true step some none = (λ _. let was = none refl in omega (arith, was, step), λ is. absurd (true≢false is))
 turned before now later false false step some none = (λ is. absurd (true≢false (sym is)), λ _. let was = none refl in omega (arith, was, step))
 
--- one lane more has nothing left to be sent
-pub sent_one : {L : Type 0} (inputs : List (LaneInput L)) (lane : ℕ) (input : LaneInput L) → lane < length inputs → input.unsent ≡ []
-    → ((k : ℕ) (p : LaneInput L) → k < lane → (get_or inputs k p).unsent ≡ [])
-    → (k : ℕ) (p : LaneInput L) → k < lane + 1 → (get_or (set inputs lane input) k p).unsent ≡ []
-sent_one {L} inputs lane input below none before k p lt =
+-- what holds of the inputs of the first lanes holds of one lane more
+pub one_more : {L : Type 0} (Holds : LaneInput L → Type 0) (inputs : List (LaneInput L)) (lane : ℕ) (input : LaneInput L) → lane < length inputs → Holds input
+    → ((k : ℕ) (p : LaneInput L) → k < lane → Holds (get_or inputs k p))
+    → (k : ℕ) (p : LaneInput L) → k < lane + 1 → Holds (get_or (set inputs lane input) k p)
+one_more {L} Holds inputs lane input below holds before k p lt =
     ⊎_elim
-    (λ earlier. ap (λ (q : LaneInput L). q.unsent) (get_or-set_other inputs lane k input p (λ is. absurd (omega (arith, is, earlier)))) ∙ before k p earlier)
+    (λ earlier. subst Holds (sym (get_or-set_other inputs lane k input p (λ is. absurd (omega (arith, is, earlier))))) (before k p earlier))
     (λ past.
     let here : lane ≡ k = omega (arith, past, lt) in
-    subst (λ j. (get_or (set inputs lane input) j p).unsent ≡ []) here (ap (λ (q : LaneInput L). q.unsent) (get_or-set_same inputs lane input p below) ∙ none))
+    subst (λ j. Holds (get_or (set inputs lane input) j p)) here (subst Holds (sym (get_or-set_same inputs lane input p below)) holds))
     (cases_lt k lane)
 
 -- what was sent where there was something to send, and else left as it was, has nothing left to be sent

@@ -12,7 +12,7 @@ use Rattle.control_script.specs.declared.stamped.Stamped.{Stamped}
 use Rattle.control_script.specs.Order.{commands_of}
 use Rattle.lane_rings.specs.declared.items.Packet.{Packet}
 use Rattle.lane_rings.specs.Batch.{packets_in}
-use Rattle.lane_rings.specs.Ring.{sent, taken, AreEnds}
+use Rattle.lane_rings.specs.Ring.{sent, known, taken, AreEnds}
 use Rattle.lane_core.specs.declared.recorder.Recorder.{Ghosts}
 use Rattle.lane_core.specs.Sight.{arrivals}
 use Rattle.run_outcome.specs.Greatest.{greatest}
@@ -34,6 +34,11 @@ module _ {L : Type 0} where
   abbrev pub taken_inline : WorkerPlace L → ℕ
   taken_inline (Thread handle) = 0
   taken_inline (Inline worker) = length (taken worker.packets)
+
+  -- a worker that is in this thread has taken every batch that its ring showed
+  abbrev pub HasTakenAll : WorkerPlace L → Type 0
+  HasTakenAll (Thread handle) = ⊤
+  HasTakenAll (Inline worker) = known worker.packets ≡ []
 
   -- the input of a worker that began so, to which these packets were given: they were sent, or are still unsent
   pub record IsInput (g : Ghosts L) (script : List Command) (begin : Worker L) (packets : List Packet) (input : LaneInput L) : Type 0 where
@@ -73,6 +78,10 @@ module _ {L : Type 0} where
   -- how many batches the workers of all inputs took in this thread
   abbrev pub batches_taken : List (LaneInput L) → ℕ
   batches_taken inputs = sum_by (λ input. taken_inline input.place) inputs
+
+  -- the workers of all inputs that are in this thread have taken every batch that their rings showed
+  abbrev pub HaveTakenAll : List (LaneInput L) → Type 0
+  HaveTakenAll inputs = (k : ℕ) (p : LaneInput L) → k < length inputs → HasTakenAll (get_or inputs k p).place
 
   -- nothing is left to be sent
   abbrev pub AreSent : List (LaneInput L) → Type 0

@@ -3,7 +3,7 @@
 ghost use Rattle.std.specs.Prelude.{◌≡◌, ◌<◌, ◌+◌, [], ◌∷◌, length, IsTrue, true, false, if◌then◌else◌, OnOk, OnErr};
 ghost use Rattle.lane_rings.specs.Batch.{packets_of};
 ghost use Rattle.lane_rings.specs.Places.{lent};
-ghost use Rattle.worker_pool.specs.Inputs.{IsSomeInput, Gets, IsKept, AreSomeInputs, AreKept, AreSent, taken_inline, batches_taken};
+ghost use Rattle.worker_pool.specs.Inputs.{IsSomeInput, Gets, IsKept, AreSomeInputs, AreKept, AreSent, taken_inline, batches_taken, HasTakenAll, HaveTakenAll};
 
 use crate::team::worker_place::WorkerPlace;
 use lane_core::Recorder;
@@ -37,6 +37,7 @@ fn take_turn_here<R: Wait, L: Recorder + Drop, G: Gate>(
     ensures input { IsKept L.Recorder context.now.script.now input.old input.new }
     ensures unsent { input.new.unsent ≡ input.old.unsent }
     ensures took { taken_inline input.new.place ≡ taken_inline input.old.place + (if result then 1 else 0) }
+    ensures all { result ≡ false → HasTakenAll input.new.place }
 {
     match &mut input.place {
         WorkerPlace::Thread(_) => false,
@@ -53,6 +54,7 @@ pub fn take_turns<R: Wait, L: Recorder + Drop, G: Gate>(
     ensures kept { AreKept L.Recorder context.now.script.now inputs.old.items inputs.new.items }
     ensures took { result ≡ true → batches_taken inputs.old.items < batches_taken inputs.new.items }
     ensures none { result ≡ false → batches_taken inputs.new.items ≡ batches_taken inputs.old.items }
+    ensures all { result ≡ false → HaveTakenAll inputs.new.items }
 {
     let mut took = false;
     for lane in 0..inputs.len() {

@@ -1,6 +1,7 @@
 use Rattle.std.proofs.Common.{◌<◌, length, set, arith}
-use Rattle.worker_pool.specs.Inputs.{batches_taken}
-use Rattle.worker_pool.proofs.Inputs.{looked_at, same_inputs, one_more_turn, turned}
+use Rattle.worker_pool.specs.declared.team.lane_input.LaneInput.{LaneInput}
+use Rattle.worker_pool.specs.Inputs.{batches_taken, HasTakenAll}
+use Rattle.worker_pool.proofs.Inputs.{looked_at, same_inputs, one_more, one_more_turn, neither, turned}
 use Rattle.worker_pool.proofs.team.lane_input.take_turns.Goals as goal
 
 pub take_turn_here-took-requires : goal.take_turn_here-took-requires
@@ -28,4 +29,7 @@ loop-lane-preserved g c =
           (c.loop-lane.invariant.kept begins frames were);
       took = turn.0;
       none = turn.1;
+      all = λ is.
+          let both = neither c.loop-lane.took c.take_turn_here-took.result is in
+          one_more (λ (q : LaneInput g.row.L.Denot). HasTakenAll q.place) inputs lane c.take_turn_here-took.new.input below (c.take_turn_here-took.ensures.all both.1) (c.loop-lane.invariant.all both.0);
     }
