@@ -29,10 +29,11 @@ module _ {L : Type 0} (g : Ghosts L) (app : Meaning) (keep : Bool) where
     pub kept : AllKeep g keep workers
     pub each_sent : (k : ℕ) (tx : RingTx Batch) → k < length packets → sent (get_or packets k tx) ≡ []
 
--- one more worker, whose number is its place among them; it answers there
-pub record Adds {L : Type 0} (answers : Option (RingTx AnswerBatch)) (before after : List (Worker L)) : Type 0 where
+-- one more worker, whose number is its place among them; it answers there, and gives batches back there
+pub record Adds {L : Type 0} (answers : Option (RingTx AnswerBatch)) (used : Option (RingTx Batch)) (before after : List (Worker L)) : Type 0 where
   pub worker : Worker L
   pub answering : worker.answers ≡ answers
+  pub giving_back : worker.used ≡ used
   pub number : worker.number ≡ length before
   pub behind : after ≡ before ++ worker ∷ []
 

@@ -45,7 +45,7 @@ fn take_turn_here<R: Wait, L: Recorder + Drop, G: Gate>(
     }
 }
 
-/// Has each worker that is in this thread take one batch out of its ring. Whether one did.
+/// Has each worker that is in this thread take one batch out of its ring. Whether one did; if not, their rings show none.
 pub fn take_turns<R: Wait, L: Recorder + Drop, G: Gate>(
     context: &WorkerContext<'_, R, G>,
     inputs: &mut Vec<LaneInput<L>>,

@@ -45,7 +45,7 @@ fn enlist_with<L: Recorder + Drop>(
     requires places { 1 ≤ places }
     ensures begun { OnOk result (JoinsBegun L.Recorder lane team.old.workers.items team.old.packets.items
         team.new.workers.items team.new.packets.items) }
-    ensures added { OnOk result (Adds answers team.old.workers.items team.new.workers.items) }
+    ensures added { OnOk result (Adds answers used team.old.workers.items team.new.workers.items) }
     ensures count { OnOk result (length team.new.workers.items ≡ length team.old.workers.items + 1) }
 {
     let (packets_tx, packets) = batch_ring(alloc, waiting)?;
@@ -76,7 +76,7 @@ pub fn enlist<L: Recorder + Drop>(
     requires places { 1 ≤ places }
     ensures begun { OnOk result (JoinsBegun L.Recorder lane team.old.workers.items team.old.packets.items
         team.new.workers.items team.new.packets.items) }
-    ensures added { OnOk result (Adds answers team.old.workers.items team.new.workers.items) }
+    ensures added { OnOk result (Adds answers used team.old.workers.items team.new.workers.items) }
     ensures count { OnOk result (length team.new.workers.items ≡ length team.old.workers.items + 1) }
 {
     enlist_with(alloc, team, lane, WAITING_BATCHES, places, answers, used)

@@ -39,6 +39,7 @@ returns-clause-added g c = record {
     used = c.args.used;
   };
   answering = refl;
+  giving_back = refl;
   number = omega (arith, c.len.ensures, c.args.team.now.workers.ok.0);
   behind = c.in_ok-push.ensures.items;
 }
